@@ -1,0 +1,3 @@
+pub mod HalvedSteps
+pub mod Numbers
+pub mod Tables

@@ -1,0 +1,4 @@
+pub mod Bytes
+pub mod Checksum
+pub mod Fields
+pub mod Superblock
