@@ -1,9 +1,9 @@
 -- The superblock: its rows, when a copy passes, which copy counts, and where it says that the areas lie.
-use Rattle.std.specs.Prelude.{◌≡◌, ℕ, ◌+◌, ◌-◌, ◌*◌, ◌/◌, ◌%◌, ◌^◌, ◌≤◌, ◌<◌, Bool, not, ◌||◌, ◌&&◌, ◌==◌, nat_le, nat_lt, List, [], ◌∷◌, length, drop, take, find, Option, option_map, unwrap_or, is_some, bit_and}
+use Rattle.std.specs.Prelude.{◌≡◌, ℕ, ◌+◌, ◌-◌, ◌*◌, ◌/◌, ◌%◌, ◌^◌, ◌≤◌, ◌<◌, Bool, not, ◌||◌, ◌&&◌, ◌==◌, nat_le, List, [], ◌∷◌, length, drop, take, find, Option, option_map, unwrap_or, is_some, bit_and}
 use Rattle.std.specs.List.{list_all}
 use Rattle.f2_bytes.specs.declared.layout.Layout.{Layout}
 use Rattle.f2_bytes.specs.declared.fields.Field.{Field}
-use Rattle.f2_bytes.specs.Bytes.{Block, Image, block_at, number_at, has_bit, numbers_below}
+use Rattle.f2_bytes.specs.Bytes.{Block, Image, block_at, has_bit, numbers_below}
 use Rattle.f2_bytes.specs.Checksum.{crc, magic_number}
 use Rattle.f2_bytes.specs.Fields.{field, field_at}
 

@@ -1,4 +1,4 @@
-use Rattle.std.proofs.Common.{◌≡◌, ◌∙◌, ap, sym, arith}
+use Rattle.std.proofs.Common.{◌∙◌, ap, sym, arith}
 use Rattle.byteorder.specs.Endian.{little_from}
 use Rattle.f2_bytes.specs.Bytes.{number_at}
 use Rattle.f2_bytes.proofs.Numbers.{number_at-read, number_at-lt}

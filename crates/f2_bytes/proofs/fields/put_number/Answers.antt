@@ -1,4 +1,4 @@
-use Rattle.std.proofs.Common.{◌≡◌, ◌-◌, ◌+◌, ◌∙◌, ◌<◌, ◌^◌, ℕ, List, length, length-take, take, drop, ap, sym, arith}
+use Rattle.std.proofs.Common.{◌-◌, ◌+◌, ◌∙◌, ℕ, List, length-take, take, drop, ap, arith}
 use Rattle.f2_bytes.specs.Bytes.{number_at}
 use Rattle.f2_bytes.proofs.Numbers.{number_at-with_number, with_number-none, put_mid-with_number, number_at-none}
 use Rattle.f2_bytes.proofs.fields.put_number.Goals as goal

@@ -1,6 +1,5 @@
-use Rattle.std.proofs.Common.{◌≡◌, ◌≤◌, ◌<◌, ◌+◌, ℕ, length, true, refl, arith, rules}
+use Rattle.std.proofs.Common.{◌≤◌, ◌+◌, length, refl, arith, rules}
 use Rattle.std.specs.Prelude.{nat_le}
-use Rattle.std.specs.List.{list_all}
 use Rattle.std.proofs.lemmas.Bool.{leb-true}
 use Rattle.f2_bytes.specs.Fields.{field, row_at, lies_in}
 use Rattle.f2_bytes.specs.Superblock.{superblock_rows}

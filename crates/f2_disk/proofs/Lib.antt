@@ -1,0 +1,4 @@
+pub mod Blocks
+pub mod MemorySteps
+pub mod Runs
+pub mod SinkRuns
