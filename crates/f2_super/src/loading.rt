@@ -10,6 +10,7 @@ ghost use Rattle.f2_super.specs.declared.loading.SuperRefusal.TheVariants.{DiskF
 
 use crate::{Super, read_copy, write_copy};
 use f2_disk::{Block, Disk, DiskFault};
+use thiserror::Error;
 
 /// The feature bits that the tools don't read: all but lost_found and sb_checksum.
 const UNSUPPORTED: u32 = 0xFFFF_F5FF;
@@ -29,17 +30,22 @@ pub struct Found {
 }
 
 /// Why no superblock was loaded.
-#[derive(Clone, Copy, Debug, PartialEq, Eq)]
+#[derive(Clone, Copy, Debug, PartialEq, Eq, Error)]
 pub enum SuperRefusal {
     /// Neither copy passes.
+    #[error("no superblock copy passes")]
     NoSuper,
     /// The copy that counts has these feature bits, which the tools don't read.
+    #[error("unsupported feature bits {0:#x}")]
     Unsupported(u32),
     /// It says that there are this many blocks, more than 2^28.
+    #[error("{0} blocks are too many")]
     TooLarge(u64),
     /// It says that there are `blocks` blocks, more than the `held` ones of the disk.
+    #[error("the superblock says {blocks} blocks, and the disk has {held}")]
     Truncated { blocks: u64, held: u64 },
     /// A call of the disk failed.
+    #[error("a call of the disk failed")]
     DiskFault,
 }
 
