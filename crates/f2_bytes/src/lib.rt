@@ -15,7 +15,6 @@ pub use checksum::{crc, sealed};
 pub use fields::{Field, FieldTable};
 pub use layout::Layout;
 pub use superblock::{SUPER, passes, superblock_rows_lie_apart};
-
 use thiserror::Error;
 
 /// The answer of a call that can be refused for memory alone.
