@@ -1,3 +1,5 @@
 pub mod HalvedSteps
 pub mod Numbers
+pub mod Seals
+pub mod SetBits
 pub mod Tables
