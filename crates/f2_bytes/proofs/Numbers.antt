@@ -82,3 +82,18 @@ pub number_at-front : (a b : List ℕ) (i n k : ℕ) → i + n ≤ k → take k 
 unfolding number_at
 number_at-front a b i n k inside same =
     sym (little_from-take i n k a inside) ∙ ap (little_from i n) same ∙ little_from-take i n k b inside
+
+-- a number that stands behind the first k bytes, seen from there
+pub number_at-drop : (b : List ℕ) (k i n : ℕ) → number_at (drop k b) i n ≡ number_at b (k + i) n
+unfolding number_at
+number_at-drop b k i n = little_from-drop b k i n
+
+-- the number whose bytes come first
+pub number_at-first : (n v : ℕ) (rest : List ℕ) → v < 256 ^ n → number_at (little_bytes n v ++ rest) 0 n ≡ v
+unfolding number_at
+number_at-first n v rest fits = little_number-reads_back n v rest fits
+
+-- one byte is its own number
+pub number_at-byte : (b : List ℕ) (i : ℕ) → number_at b i 1 ≡ slice_index b i
+unfolding number_at
+number_at-byte b i = omega arith

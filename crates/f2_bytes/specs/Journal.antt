@@ -80,17 +80,18 @@ nat_room = 38
 abbrev pub sit_room : ℕ
 sit_room = 6
 
--- the journal area that holds these records: their number, each in turn, and zeros
-abbrev pub area_of : List (List ℕ) → List ℕ
-area_of records =
-    let bytes = little_bytes 2 (length records) ++ flat_map (λ bytes. bytes) records in
+-- the journal area with this count and the bytes of the records: all behind them is zeros
+abbrev pub area_of : ℕ → List ℕ → List ℕ
+area_of count records =
+    let bytes = little_bytes 2 count ++ records in
     bytes ++ replicate (507 - length bytes) 0
 
+-- the journal area that holds these records
 abbrev pub nat_area : List NatRecord → List ℕ
-nat_area records = area_of (map nat_record_bytes records)
+nat_area records = area_of (length records) (flat_map nat_record_bytes records)
 
 abbrev pub sit_area : List SitRecord → List ℕ
-sit_area records = area_of (map sit_record_bytes records)
+sit_area records = area_of (length records) (flat_map sit_record_bytes records)
 
 -- the first of the summary blocks of the data logs, and of the node logs, in a pack with this head
 abbrev pub data_summary_start : Block → ℕ
