@@ -31,7 +31,8 @@ nat_record_at b i = record { nid = number_at b i 4; entry = nat_entry_at b (i + 
 abbrev pub nat_record_bytes : NatRecord → List ℕ
 nat_record_bytes r = little_bytes 4 r.nid ++ nat_entry_bytes r.entry
 
--- an entry of the segment table: the type of a segment's blocks, how many are valid, a bit for each, and a time
+-- an entry of the segment table: the type of a segment's blocks, how many are valid, a bit for each of the 512 in the
+-- order of the most significant bit first, and a time
 pub record SitEntry : Type 0 where
   pub kind : ℕ
   pub count : ℕ
@@ -46,7 +47,7 @@ sit_entry_at b i = record { kind = number_at b i 2 / 1024; count = number_at b i
 abbrev pub sit_entry_bytes : SitEntry → List ℕ
 sit_entry_bytes e = little_bytes 2 (1024 * e.kind + e.count) ++ e.map ++ little_bytes 8 e.mtime
 
--- the type and the count of an entry share two bytes
+-- the type and the count of an entry fit the two bytes that they share
 pub record FitsSitEntry (e : SitEntry) : Type 0 where
   pub kind : e.kind < 64
   pub count : e.count < 1024

@@ -1,7 +1,7 @@
 // Maps of bits in bytes.
 ghost use Rattle.std.specs.Prelude.{◌≡◌, ◌≢◌, ℕ, ◌*◌, ◌^◌, ◌<◌, length};
-ghost use Rattle.f2_bytes.specs.Bytes.{has_bit};
-ghost use Rattle.f2_bytes.specs.Bits.{bit_msb, bit_lsb, set_bits, ChangesBit};
+ghost use Rattle.f2_bytes.specs.Bytes.{has_bit, count_below};
+ghost use Rattle.f2_bytes.specs.Bits.{bit_msb, bit_lsb, ChangesBit};
 
 /// Bit `k` of the map, each byte's most significant bit first: the order of valid maps and version bitmaps.
 pub fn bit_msb(map: &[u8], k: usize) -> bool
@@ -45,10 +45,11 @@ pub fn set_bit_lsb(map: &mut [u8], k: usize, on: bool)
     map[k / 8] = with_bit(map[k / 8], k % 8, on);
 }
 
-/// How many bits of a map of less than 2^29 bytes are set.
+/// How many bits of a map of less than 2^29 bytes are set. It is the same number in either order.
 pub fn count_bits(map: &[u8]) -> u32
     requires { length map.now < 2 ^ 29 }
-    ensures { result ≡ set_bits map.now }
+    ensures msb { result ≡ count_below (8 * length map.now) (bit_msb map.now) }
+    ensures lsb { result ≡ count_below (8 * length map.now) (bit_lsb map.now) }
 {
     let mut count = 0;
     for byte in map {

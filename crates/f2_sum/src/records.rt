@@ -24,7 +24,9 @@ pub struct Summary {
 /// A record of the journal of the node address table.
 #[derive(Clone, Copy, Debug, PartialEq, Eq)]
 pub struct NatRecord {
+    /// The node.
     pub nid: u32,
+    /// How often the node's number was given out anew.
     pub version: u8,
     /// The inode to which the node belongs.
     pub ino: u32,
@@ -41,7 +43,7 @@ pub struct SitEntry {
     pub count: u16,
     /// A bit for each of the 512 blocks, each byte's most significant bit first.
     pub map: [u8; 64],
-    /// The segment's time of change, in seconds.
+    /// When the segment was last written, in seconds.
     pub mtime: u64,
 }
 
@@ -50,6 +52,7 @@ pub struct SitEntry {
 pub struct SitRecord {
     /// The main segment, counted from 0.
     pub segno: u32,
+    /// Its entry, which goes before that of the table.
     pub entry: SitEntry,
 }
 
