@@ -2,4 +2,6 @@ pub mod Below
 pub mod CopyFacts
 pub mod HalvedSteps
 pub mod Numbers
+pub mod Seals
+pub mod SetBits
 pub mod Tables

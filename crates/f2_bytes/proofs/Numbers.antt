@@ -1,6 +1,6 @@
 -- Numbers in a block, as `byteorder` reads them of a part of it.
 use Rattle.std.proofs.Common.{◌≡◌, ℕ, zero, suc, ◌+◌, ◌-◌, ◌<◌, ◌≤◌, ◌^◌, List, ◌++◌, length, take, drop, refl, sym, ap, subst, ◌∙◌, arith, get_or-drop, append_assoc, take-append-drop}
-use Rattle.std.proofs.lemmas.List.{length-take-le, drop_at, drop_all, take_all, append-nil}
+use Rattle.std.proofs.lemmas.List.{length-take-le, length-take, length-drop, length-append, drop_at, drop_all, take_all, take-take, take-append-le, append-nil}
 use Rattle.std.proofs.lemmas.Slice.{put_mid-paste}
 use borrow.Rule.Slice.PartMut.{put_mid}
 use Rattle.std.specs.Prelude.{slice_range, slice_index}
@@ -63,3 +63,37 @@ unfolding number_at
 number_at-none b i n v none fits =
     let least : v < 256 ^ 0 = subst (λ k. v < 256 ^ k) none fits in
     ap (λ k. little_from i k b) none ∙ omega (arith, least)
+
+pub length-with_number : (b : List ℕ) (i n v : ℕ) → i + n ≤ length b → length (with_number b i n v) ≡ length b
+unfolding with_number
+length-with_number b i n v inside =
+    simp (length-append, length-take, length-drop, length-bytes_low_first) (omega arith)
+
+-- what stands before a number stays
+pub take-with_number : (b : List ℕ) (k i n v : ℕ) → k ≤ i → i ≤ length b → take k (with_number b i n v) ≡ take k b
+unfolding with_number
+take-with_number b k i n v before inside =
+    ap (take k) (append_assoc (take i b) (little_bytes n v) (drop (i + n) b))
+    ∙ take-append-le k (take i b) (little_bytes n v ++ drop (i + n) b) (omega (arith, length-take i b))
+    ∙ take-take k i b before
+
+-- a number that ends within the first k bytes
+pub number_at-front : (a b : List ℕ) (i n k : ℕ) → i + n ≤ k → take k a ≡ take k b → number_at a i n ≡ number_at b i n
+unfolding number_at
+number_at-front a b i n k inside same =
+    sym (little_from-take i n k a inside) ∙ ap (little_from i n) same ∙ little_from-take i n k b inside
+
+-- a number that stands behind the first k bytes, seen from there
+pub number_at-drop : (b : List ℕ) (k i n : ℕ) → number_at (drop k b) i n ≡ number_at b (k + i) n
+unfolding number_at
+number_at-drop b k i n = little_from-drop b k i n
+
+-- the number whose bytes come first
+pub number_at-first : (n v : ℕ) (rest : List ℕ) → v < 256 ^ n → number_at (little_bytes n v ++ rest) 0 n ≡ v
+unfolding number_at
+number_at-first n v rest fits = little_number-reads_back n v rest fits
+
+-- one byte is its own number
+pub number_at-byte : (b : List ℕ) (i : ℕ) → number_at b i 1 ≡ slice_index b i
+unfolding number_at
+number_at-byte b i = omega arith

@@ -1,4 +1,8 @@
+pub mod Bits
 pub mod Bytes
+pub mod Checkpoint
 pub mod Checksum
 pub mod Fields
+pub mod Journal
+pub mod Summary
 pub mod Superblock

@@ -1,9 +1,10 @@
 // The checksum of F2FS: CRC-32 with its bits reversed, without a final inversion.
-ghost use Rattle.std.specs.Prelude.{◌≡◌, ◌≤◌, ◌+◌, length, take};
+ghost use Rattle.std.specs.Prelude.{◌≡◌, ◌≤◌, ◌+◌, IsTrue, length, take};
 ghost use Rattle.f2_bytes.specs.Bytes.{number_at};
-ghost use Rattle.f2_bytes.specs.Checksum.{crc_after, is_sealed};
+ghost use Rattle.f2_bytes.specs.Checksum.{crc_after, is_sealed, with_seal};
 ghost use Rattle.f2_bytes.specs.Checksum.{crc as crc_of};
 
+use crate::fields::put_number;
 use byteorder::{ByteOrder, LittleEndian};
 
 /// The value with which the checksums of superblock copies and checkpoint blocks begin: the magic number.
@@ -62,4 +63,41 @@ pub fn sealed(b: &[u8]) -> bool
     ensures { result ≡ is_sealed b.now }
 {
     word(b, 164) == 4092 && word(b, 4092) == crc_of_front(b, 4092)
+}
+
+/// Seals a block of 4096 bytes: puts 4092 at byte 164 and then the checksum of the bytes before at byte 4092. No other
+/// byte changes.
+pub fn seal(b: &mut [u8])
+    requires { length b.old ≡ 4096 }
+    ensures bytes { b.new ≡ with_seal b.old }
+    ensures sealed { IsTrue (is_sealed b.new) }
+{
+    put_number(b, 164, 4, 4092);
+    let checksum = crc_of_front(b, 4092);
+    put_number(b, 4092, 4, u64::from(checksum));
+}
+
+#[cfg(test)]
+mod tests {
+    use super::*;
+
+    // The check value of CRC-32 is 0xCBF43926 with all ones as its start and inverted at the end.
+    #[test]
+    fn crc_has_the_check_value(rt: HostRuntime) {
+        assert_eq!(rt; crc(0xFFFF_FFFF, b"123456789"), 0x340B_C6D9);
+    }
+
+    #[test]
+    fn seals_a_block(rt: HostRuntime) {
+        let mut block = [0xA5; 4096];
+        assert!(rt; !sealed(&block));
+        seal(&mut block);
+        assert!(rt; sealed(&block));
+        assert_eq!(rt;
+            (block[163], block[164], block[165], block[168]),
+            (0xA5, 0xFC, 0x0F, 0xA5)
+        );
+        block[4000] = 0;
+        assert!(rt; !sealed(&block));
+    }
 }

@@ -19,6 +19,15 @@ pub struct FieldTable<const N: usize> {
     pub rows: [Field; N],
 }
 
+// The rows of a table, each by its offset and its width.
+macro_rules! rows {
+    ($($offset:literal $width:literal),* $(,)?) => {
+        [$(Field { offset: $offset, width: $width }),*]
+    };
+}
+
+pub(crate) use rows;
+
 // The number in the `width` bytes from `offset` on.
 fn number(b: &[u8], offset: usize, width: usize) -> u64
     requires inside { offset + width ≤ length b.now }
@@ -33,7 +42,7 @@ fn number(b: &[u8], offset: usize, width: usize) -> u64
 }
 
 // Puts a number into the `width` bytes from `offset` on.
-fn put_number(b: &mut [u8], offset: usize, width: usize, value: u64)
+pub(crate) fn put_number(b: &mut [u8], offset: usize, width: usize, value: u64)
     requires inside { offset + width ≤ length b.old }
     requires narrow { width ≤ 8 }
     requires fits { value < 256 ^ width }

@@ -1,17 +1,21 @@
-//! Numbers, checksums and tables of fields in the bytes of an F2FS image, the test of a superblock copy, and where
-//! the areas of an image lie. Nothing here takes memory.
+//! Numbers, bits, checksums and tables of fields in the bytes of an F2FS image, the test of a superblock copy, and
+//! where the areas of an image lie. Nothing here takes memory.
 //!
 //! `specs/` has the definitions of the on-disk format that the contracts of all crates cite. The format is that of
 //! the kernel's documentation, filesystems/f2fs, and of Lee et al., "F2FS: A New File System for Flash Storage"
 //! (FAST 2015).
 #![tactic(auto)]
 
+mod bits;
+mod checkpoint;
 mod checksum;
 mod fields;
 mod layout;
 mod superblock;
 
-pub use checksum::{crc, sealed};
+pub use bits::{bit_lsb, bit_msb, count_bits, set_bit_lsb, set_bit_msb};
+pub use checkpoint::{CHECKPOINT, checkpoint_rows_lie_apart};
+pub use checksum::{crc, seal, sealed};
 pub use fields::{Field, FieldTable};
 pub use layout::Layout;
 pub use superblock::{SUPER, passes, superblock_rows_lie_apart};

@@ -5,17 +5,12 @@ ghost use Rattle.f2_bytes.specs.Superblock.{superblock_rows, copy_row, has_known
 ghost use Rattle.f2_bytes.specs.Superblock.{passes as copy_in_passes};
 
 use crate::checksum::{START, crc_of_front};
+use crate::fields::rows;
 use crate::{Field, FieldTable};
-
-macro_rules! fields {
-    ($($offset:literal $width:literal),* $(,)?) => {
-        [$(Field { offset: $offset, width: $width }),*]
-    };
-}
 
 /// The numbers of a superblock copy, which has 3072 bytes and stands from byte 1024 on in blocks 0 and 1.
 pub const SUPER: FieldTable<33> = FieldTable {
-    rows: fields![
+    rows: rows![
         0 4, 4 2, 6 2, 8 4, 12 4, 16 4, 20 4, 24 4, 28 4, 32 4, 36 8, 44 4, 48 4, 52 4, 56 4, 60 4, 64 4, 68 4,
         72 4, 76 4, 80 4, 84 4, 88 4, 92 4, 96 4, 100 4, 104 4, 108 8, 116 8, 1148 4, 1664 4, 2180 4, 3068 4,
     ],
