@@ -1,3 +1,5 @@
+pub mod Below
+pub mod CopyFacts
 pub mod HalvedSteps
 pub mod Numbers
 pub mod Seals

@@ -188,9 +188,13 @@ super_bytes image = copy_of (block_at image (unwrap_or (super_copy image) 0))
 abbrev pub is_compared_row : ℕ → Bool
 is_compared_row row = (nat_le 3 row && nat_le row 8) || (nat_le 10 row && nat_le row 28) || (row == 30) || (row == 31)
 
--- two copies agree in all of these
+-- two copies agree in this row, if they are to
+abbrev pub agree_at : List ℕ → List ℕ → ℕ → Bool
+agree_at c d row = not (is_compared_row row) || (copy_row c row == copy_row d row)
+
+-- two copies agree in all rows in which they are to
 unfoldable pub agree : List ℕ → List ℕ → Bool
-agree c d = list_all (λ row. not (is_compared_row row) || (copy_row c row == copy_row d row)) (numbers_below 33)
+agree c d = list_all (agree_at c d) (numbers_below 33)
 
 -- both copies pass and agree
 abbrev pub has_twins : Image → Bool

@@ -19,7 +19,9 @@ pub use checksum::{crc, seal, sealed};
 pub use fields::{Field, FieldTable};
 pub use layout::Layout;
 pub use superblock::{SUPER, passes, superblock_rows_lie_apart};
+use thiserror::Error;
 
 /// The answer of a call that can be refused for memory alone.
-#[derive(Clone, Copy, Debug, PartialEq, Eq)]
+#[derive(Clone, Copy, Debug, PartialEq, Eq, Error)]
+#[error("no memory is left")]
 pub struct NoMemory;

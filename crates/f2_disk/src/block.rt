@@ -43,6 +43,7 @@ impl Block {
     pub fn put(&mut self, at: usize, from: &[u8])
         requires { at + length from.now ≤ 4096 }
         ensures bytes { self.new ≡ take at self.old ++ from.now ++ drop (at + length from.now) self.old }
+        ensures block { IsBlock self.old }
     {
         self.bytes[at..at + from.len()].copy_from_slice(from);
     }

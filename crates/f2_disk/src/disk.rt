@@ -4,9 +4,11 @@ ghost use Rattle.f2_bytes.specs.Bytes.{Image, block_at};
 ghost use Rattle.f2_disk.specs.Disk.{State, IsImage, Goes, Reads, Writes, Wrote, Syncs, Rose};
 
 use crate::Block;
+use thiserror::Error;
 
 /// A call of a disk failed.
-#[derive(Clone, Copy, Debug, PartialEq, Eq)]
+#[derive(Clone, Copy, Debug, PartialEq, Eq, Error)]
+#[error("a call of the disk failed")]
 pub struct DiskFault;
 
 /// A disk of blocks of 4096 bytes, whose length never changes.

@@ -5,9 +5,11 @@ ghost use Rattle.f2_disk.specs.Sink.{Puts};
 use crate::calls::Calls;
 use std::alloc::Global;
 use std::marker::Model;
+use thiserror::Error;
 
 /// A put failed.
-#[derive(Clone, Copy, Debug, PartialEq, Eq)]
+#[derive(Clone, Copy, Debug, PartialEq, Eq, Error)]
+#[error("a put of the sink failed")]
 pub struct SinkFault;
 
 /// A sink that takes bytes in order, as standard output does.

@@ -1,0 +1,24 @@
+PREFIX = /usr/local
+PROGRAM = crates/f2_tools/out/f2_tools
+SOURCES = crates.txt $(shell find crates -name out -prune -o -type f \( -name '*.rt' -o -name '*.antt' \) -print)
+
+.PHONY: build demo test bench install
+
+build: $(PROGRAM)
+
+# `rt run` proves what it builds, and ends as the program does: with status 16, since it is given no words.
+$(PROGRAM): $(SOURCES)
+	cd crates/f2_tools && rt run >/dev/null; [ $$? -eq 16 ]
+	touch $@
+
+demo: build
+	scripts/demo.sh
+
+test:
+	.ci/run
+
+bench: build
+	bench/super_copies.py
+
+install: build
+	install -D -m 755 $(PROGRAM) $(DESTDIR)$(PREFIX)/bin/f2tools

@@ -1,0 +1,9 @@
+//! The superblock copies in blocks 0 and 1: reading and writing one, loading the one that counts, and repairing the
+//! other. Nothing here takes memory.
+#![tactic(auto)]
+
+mod copies;
+mod loading;
+
+pub use copies::{Super, read_copy, write_copy};
+pub use loading::{Found, SuperRefusal, load, repair};

@@ -1,0 +1,48 @@
+//! The program f2tools: a file as the disk, standard output as the sink, and the words of the command line.
+#![tactic(auto)]
+
+mod file_disk;
+mod stdout_sink;
+#[cfg(test)]
+mod tests;
+
+use f2_top::{Answer, run};
+use file_disk::FileDisk;
+use std::alloc::Global;
+use std::fs::File;
+use std::io;
+use std::process::ExitCode;
+use stdout_sink::StdoutSink;
+
+// The words of the command line, the program's name first. Words that are no text name no job, as no words do.
+fn words(rt: &HostRuntime, alloc: Global) -> Result<Vec<String>, Answer> {
+    match std::env::args(rt) {
+        Ok(words) => words.collect(alloc).map_err(|_| Answer::NoMemory),
+        Err(error) if error.kind() == io::ErrorKind::OutOfMemory => Err(Answer::NoMemory),
+        Err(_) => Ok(Vec::new(alloc)),
+    }
+}
+
+fn answer(rt: &HostRuntime, alloc: Global) -> Answer {
+    let words = match words(rt, alloc) {
+        Ok(words) => words,
+        Err(answer) => return answer,
+    };
+    let mut disk = match words.get(1) {
+        Some(image) => FileDisk::open(rt, image.as_str()),
+        None => FileDisk::none(),
+    };
+    let mut out = StdoutSink::new(rt.stdout());
+    let rest: &[String] = if words.len() > 2 { &words[2..] } else { &[] };
+    run(alloc, rest, &mut disk, &mut out, 0, [0; 16])
+}
+
+fn main(rt: HostRuntime) -> ExitCode {
+    // A file that is opened takes the least number that is free: were standard output closed, the image would get its
+    // number, and the text would go into the image. These three take the places of the standard streams.
+    let _input = File::open(&rt, "/");
+    let _output = File::open(&rt, "/");
+    let _errors = File::open(&rt, "/");
+    let alloc = rt.alloc();
+    ExitCode::from(answer(&rt, alloc).status())
+}

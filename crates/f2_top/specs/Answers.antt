@@ -1,0 +1,27 @@
+-- The answers of a run.
+use Rattle.std.specs.Prelude.{ℕ}
+use Rattle.f2_top.specs.declared.answer.Answer.{Answer}
+use Rattle.f2_top.specs.declared.answer.Answer.TheVariants.{Done, Corrected, DiskFault, SinkFault, Usage, Refused, NoMemory}
+
+-- the status with which the program ends
+abbrev pub status_of : Answer → ℕ
+status_of Done = 0
+status_of Corrected = 1
+status_of DiskFault = 8
+status_of SinkFault = 9
+status_of Usage = 16
+status_of (Refused refusal) = 20
+status_of NoMemory = 32
+
+-- the job was done
+abbrev pub IsSuccess : Answer → Type 0
+IsSuccess Done = Unit {0}
+IsSuccess Corrected = Unit {0}
+IsSuccess _ = ⊥
+
+-- with these answers nothing was written to the disk
+abbrev pub IsIdle : Answer → Type 0
+IsIdle Done = Unit {0}
+IsIdle Usage = Unit {0}
+IsIdle (Refused refusal) = Unit {0}
+IsIdle _ = ⊥

@@ -1,0 +1,52 @@
+// What a run answers.
+/// What a run answers.
+#[derive(Clone, Copy, Debug, PartialEq, Eq)]
+pub enum Answer {
+    /// The job is done, and there was nothing to mend.
+    Done,
+    /// The image was mended.
+    Corrected,
+    /// A call of the disk failed.
+    DiskFault,
+    /// A put of the sink failed.
+    SinkFault,
+    /// The words name no job.
+    Usage,
+    /// The image can't be worked on.
+    Refused(Refusal),
+    /// Memory ran out.
+    NoMemory,
+}
+
+/// Why an image can't be worked on. Nothing was written then.
+#[derive(Clone, Copy, Debug, PartialEq, Eq)]
+pub enum Refusal {
+    /// Neither superblock copy passes.
+    NoSuper,
+    /// The superblock has these feature bits, which the tools don't read.
+    Unsupported(u32),
+    /// The image would have this many blocks, more than 2^28.
+    TooLarge(u64),
+    /// The superblock says that there are `blocks` blocks, more than the `held` ones of the disk.
+    Truncated { blocks: u64, held: u64 },
+}
+
+impl Answer {
+    ghost use Rattle.std.specs.Prelude.{◌≡◌};
+    ghost use Rattle.f2_top.specs.Answers.{status_of};
+
+    /// The status with which the program ends.
+    pub fn status(&self) -> u8
+        ensures { result ≡ status_of self.now }
+    {
+        match self {
+            Answer::Done => 0,
+            Answer::Corrected => 1,
+            Answer::DiskFault => 8,
+            Answer::SinkFault => 9,
+            Answer::Usage => 16,
+            Answer::Refused(_) => 20,
+            Answer::NoMemory => 32,
+        }
+    }
+}

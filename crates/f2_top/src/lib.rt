@@ -1,0 +1,14 @@
+//! The top call of f2tools: it reads the words of a command line, does the job that they name on any disk, and puts
+//! the text of its answer into any sink. docs/COMMANDS.md has the words, texts and statuses.
+#![tactic(auto)]
+
+mod answer;
+mod report;
+mod super_copies;
+mod top;
+
+pub use answer::{Answer, Refusal};
+pub use top::run;
+
+#[cfg(test)]
+mod tests;

@@ -1,0 +1,53 @@
+// The lines that a run puts.
+ghost use Rattle.std.specs.Prelude.{◌≡◌, ◌++◌, decimal};
+ghost use Rattle.f2_disk.specs.Sink.{Puts};
+ghost use Rattle.f2_top.specs.Text.{refusal_line, last_line};
+
+use crate::{Answer, Refusal};
+use f2_disk::{Sink, SinkFault};
+use itoa::Buffer;
+
+// Puts a text, a number in decimal, and a text.
+fn put_number<O: Sink>(
+    out: &mut O,
+    before: &[u8],
+    number: u64,
+    after: &[u8],
+) -> Result<(), SinkFault>
+    ensures { Puts (before.now ++ decimal number ++ after.now) (O.told out.old) (O.told out.new) (O.faults out.old) (O.faults out.new) result }
+{
+    let mut buffer = Buffer::new();
+    out.put(before)?;
+    out.put(buffer.format(number).as_bytes())?;
+    out.put(after)
+}
+
+fn put_refusal<O: Sink>(out: &mut O, refusal: &Refusal) -> Result<(), SinkFault>
+    ensures { Puts (refusal_line refusal.now) (O.told out.old) (O.told out.new) (O.faults out.old) (O.faults out.new) result }
+{
+    match refusal {
+        Refusal::NoSuper => out.put(b"refused 1 NoSuper\n"),
+        Refusal::Unsupported(bits) => {
+            put_number(out, b"refused 2 Unsupported ", u64::from(*bits), b"\n")
+        }
+        Refusal::TooLarge(blocks) => put_number(out, b"refused 3 TooLarge ", *blocks, b"\n"),
+        Refusal::Truncated { blocks, held } => {
+            put_number(out, b"refused 4 Truncated ", *blocks, b" ")?;
+            put_number(out, b"", *held, b"\n")
+        }
+    }
+}
+
+/// Puts the last line of an answer. For `SinkFault` and `NoMemory` there is none.
+pub fn put_last<O: Sink>(out: &mut O, answer: &Answer) -> Result<(), SinkFault>
+    ensures { Puts (last_line answer.now) (O.told out.old) (O.told out.new) (O.faults out.old) (O.faults out.new) result }
+{
+    match answer {
+        Answer::Done => out.put(b"done\n"),
+        Answer::Corrected => out.put(b"corrected\n"),
+        Answer::DiskFault => out.put(b"disk fault\n"),
+        Answer::Usage => out.put(b"usage: f2tools IMAGE TOOL OPTIONS\n"),
+        Answer::Refused(refusal) => put_refusal(out, refusal),
+        Answer::SinkFault | Answer::NoMemory => Ok(()),
+    }
+}

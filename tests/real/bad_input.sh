@@ -1,0 +1,186 @@
+#!/usr/bin/env bash
+# Gives the program files, words and standard outputs that it cannot use.
+source "$(dirname "$0")/expect.bash"
+
+image=$tmp/image
+usage='usage: f2tools IMAGE TOOL OPTIONS'
+
+lay_out() {
+    python3 "$top/scripts/superblock_image.py" "$@"
+}
+
+# expect_unchanged NAME STATUS TEXT COMMAND..: as expect, and the image keeps its bytes.
+expect_unchanged() {
+    cp --sparse=always "$image" "$tmp/before"
+    expect "$@"
+    expect_same "$1" "$image" "$tmp/before"
+}
+
+# expect_answer NAME STATUS TEXT: what `fsck --super` answers to the image, which keeps its bytes.
+expect_answer() {
+    expect_unchanged "$@" "$program" "$image" fsck --super
+}
+
+check_lengths() {
+    lay_out "$tmp/good" 16384
+    : >"$image"
+    expect_answer 'an empty file' 20 'refused 1 NoSuper'
+    head -c 2000 "$tmp/good" >"$image"
+    expect_answer 'part of a copy' 20 'refused 1 NoSuper'
+    head -c 4095 "$tmp/good" >"$image"
+    expect_answer 'a byte less than a block' 20 'refused 1 NoSuper'
+    head -c 4096 "$tmp/good" >"$image"
+    expect_answer 'one block' 20 'refused 4 Truncated 16384 1'
+    head -c 5000 "$tmp/good" >"$image"
+    expect_answer 'a block and a part of one' 20 'refused 4 Truncated 16384 1'
+    head -c 8191 "$tmp/good" >"$image"
+    expect_answer 'a byte less than two blocks' 20 'refused 4 Truncated 16384 1'
+    head -c 8192 "$tmp/good" >"$image"
+    expect_answer 'two blocks' 20 'refused 4 Truncated 16384 2'
+    cp --sparse=always "$tmp/good" "$image"
+    truncate -s -1 "$image"
+    expect_answer 'a byte less than the image' 20 'refused 4 Truncated 16384 16383'
+
+    lay_out "$tmp/good" 16384 --zero-first
+    head -c 8191 "$tmp/good" >"$image"
+    expect_answer 'the only good copy past the last whole block' 20 'refused 1 NoSuper'
+    cp --sparse=always "$tmp/good" "$image"
+    truncate -s -1 "$image"
+    expect_answer 'a byte less than an image with one good copy' 20 'refused 4 Truncated 16384 16383'
+}
+
+check_contents() {
+    head -c 100000 /dev/urandom >"$image"
+    expect_answer 'noise' 20 'refused 1 NoSuper'
+    lay_out "$image" 16384 --zero-first --zero-second
+    expect_answer 'both copies all zeros' 20 'refused 1 NoSuper'
+    lay_out "$image" 16384 --feature 1
+    expect_answer 'an unknown feature' 20 'refused 2 Unsupported 1'
+    lay_out "$image" 16384 --feature ffffffff --zero-first
+    expect_answer 'all features, in the second copy alone' 20 'refused 2 Unsupported 4294964735'
+    if lay_out "$image" 268435457 >/dev/null 2>&1; then
+        truncate -s 8192 "$image"
+        expect_answer 'more than 1 TiB' 20 'refused 3 TooLarge 268435457'
+    else
+        echo "skipped: an image of more than 1 TiB: the folder for temporary files takes none"
+    fi
+}
+
+check_names() {
+    mkdir "$tmp/folder"
+    expect 'a folder' 8 'disk fault' "$program" "$tmp/folder" fsck --super
+    # the length of this folder is 0
+    expect 'the folder /proc' 8 'disk fault' "$program" /proc fsck --super
+    expect 'a missing file' 8 'disk fault' "$program" "$tmp/missing" fsck --super
+    [[ ! -e $tmp/missing ]] || fail 'a missing file: it was made'
+    expect 'a file in a missing folder' 8 'disk fault' "$program" "$tmp/missing/image" fsck --super
+    expect 'an empty name' 8 'disk fault' "$program" '' fsck --super
+}
+
+# Runs a command as a user that file permissions bind.
+if [[ $(id -u) == 0 ]]; then
+    as_other() { setpriv --reuid=65534 --regid=65534 --clear-groups "$@"; }
+else
+    as_other() { "$@"; }
+fi
+
+# expect_at MODE NAME STATUS TEXT: what `fsck --super` answers such a user to the image with these permissions.
+expect_at() {
+    local mode=$1
+    shift
+    cp --sparse=always "$image" "$tmp/before"
+    chmod "$mode" "$image"
+    expect "$@" as_other "$tmp/f2tools" "$image" fsck --super
+    chmod 600 "$image"
+    expect_same "$1" "$image" "$tmp/before"
+}
+
+check_permissions() {
+    # the program and the image have to be within that user's reach
+    chmod 755 "$tmp"
+    cp "$program" "$tmp/f2tools"
+    chmod 755 "$tmp/f2tools"
+    echo secret >"$tmp/secret"
+    chmod 000 "$tmp/secret"
+    if ! as_other test -x "$tmp/f2tools" 2>/dev/null || as_other cat "$tmp/secret" >/dev/null 2>&1; then
+        echo "skipped: file permissions: found no user whom they bind and who reaches $tmp"
+        return
+    fi
+    lay_out "$image" 16384
+    expect_at 000 'a file without permissions' 8 'disk fault'
+    expect_at 222 'a file that may not be read' 8 'disk fault'
+    expect_at 444 'a good file that may not be written' 0 'done'
+    lay_out "$image" 16384 --zero-first
+    expect_at 444 'a file with a bad first copy that may not be written' 8 'disk fault'
+    lay_out "$image" 16384 --zero-second
+    expect_at 444 'a file with a bad second copy that may not be written' 8 'disk fault'
+    lay_out "$image" 16384 --zero-first --zero-second
+    expect_at 444 'a file with no good copy that may not be written' 20 'refused 1 NoSuper'
+}
+
+output_closed() { "$@" >&-; }
+all_closed() { "$@" <&- >&- 2>&-; }
+output_full() { "$@" >/dev/full; }
+output_unread() {
+    python3 -c 'import os, subprocess, sys
+reader, writer = os.pipe()
+os.close(reader)
+sys.exit(subprocess.run(sys.argv[1:], stdout=writer).returncode)' "$@"
+}
+
+check_outputs() {
+    local output
+    # where standard output is closed, the image itself could be opened in its place
+    for output in output_closed all_closed output_full output_unread; do
+        lay_out "$image" 16384
+        expect_unchanged "$output: done" 9 '' "$output" "$program" "$image" fsck --super
+        cp --sparse=always "$image" "$tmp/good"
+        lay_out "$image" 16384 --zero-first
+        expect "$output: corrected" 9 '' "$output" "$program" "$image" fsck --super
+        expect_same "$output: corrected" "$image" "$tmp/good"
+        lay_out "$image" 16384 --zero-first --zero-second
+        expect_unchanged "$output: refused" 9 '' "$output" "$program" "$image" fsck --super
+        expect_unchanged "$output: usage" 9 '' "$output" "$program" "$image" fsck
+        expect "$output: disk fault" 9 '' "$output" "$program" "$tmp/missing" fsck --super
+        expect "$output: no words" 9 '' "$output" "$program"
+    done
+}
+
+# expect_usage NAME WORD..
+expect_usage() {
+    local name=$1
+    shift
+    expect_unchanged "$name" 16 "$usage" "$program" "$@"
+}
+
+check_words() {
+    lay_out "$image" 16384 --zero-first
+    expect_usage 'no words'
+    expect_usage 'an image alone' "$image"
+    expect_usage 'no option' "$image" fsck
+    expect_usage 'no tool' "$image" --super
+    expect_usage 'the words turned' "$image" --super fsck
+    expect_usage 'a word too many' "$image" fsck --super --super
+    expect_usage 'an empty word too many' "$image" fsck --super ''
+    expect_usage 'an unknown tool' "$image" repair --super
+    expect_usage 'an unknown option' "$image" fsck --superb
+    expect_usage 'a shorter option' "$image" fsck --sup
+    expect_usage 'capitals' "$image" FSCK --SUPER
+    expect_usage 'both words in one' "$image" 'fsck --super'
+    expect_usage 'empty words' "$image" '' ''
+    expect_usage 'unknown words for a missing file' "$tmp/missing" fsck --superb
+    expect_usage 'unknown words for a folder' "$tmp" fsck --superb
+    expect_usage 'a tool that is not UTF-8' "$image" $'\xff' --super
+    expect_usage 'an option that is not UTF-8' "$image" fsck $'--super\xff'
+    cp --sparse=always "$image" "$tmp/"$'image\xff'
+    expect_usage 'a name that is not UTF-8' "$tmp/"$'image\xff' fsck --super
+    expect_same 'a name that is not UTF-8' "$image" "$tmp/"$'image\xff'
+}
+
+check_lengths
+check_contents
+check_names
+check_permissions
+check_outputs
+check_words
+finish
