@@ -1,5 +1,5 @@
 -- The rows of a checkpoint lie in its block.
-use Rattle.std.proofs.Common.{ℕ, ◌+◌, ◌≤◌, ◌<◌, refl}
+use Rattle.std.proofs.Common.{◌≡◌, ℕ, suc, zero, ◌+◌, ◌≤◌, ◌<◌, refl, arith}
 use Rattle.std.specs.Prelude.{nat_le}
 use Rattle.std.proofs.lemmas.Bool.{leb-true}
 use Rattle.f2_bytes.specs.Fields.{field, row_at, lies_in}
@@ -19,3 +19,10 @@ checkpoint_row-inside k below =
       inside = leb-true (row.offset + row.width) 4096 (row_passes (lies_in 4096) checkpoint_rows k (field 0 0) below refl);
       narrow = leb-true row.width 8 (row_passes (λ (r : Field). nat_le r.width 8) checkpoint_rows k (field 0 0) below refl);
     }
+
+-- the offsets of the data logs have two bytes
+pub data_offset-width : (t : ℕ) → t < 3 → (row_at checkpoint_rows (30 + t)).width ≡ 2
+data_offset-width zero low = refl
+data_offset-width (suc zero) low = refl
+data_offset-width (suc (suc zero)) low = refl
+data_offset-width (suc (suc (suc t))) low = absurd (omega (arith, low))

@@ -8,6 +8,6 @@ pub get-requires : goal.get-requires
 get-requires c =
     let fits = checkpoint_row-inside c.args.k c.requires in
     let row = row_at checkpoint_rows c.args.k in
-    let inside : row.offset + row.width ≤ length c.self.inside.block = ? in
+    let inside : row.offset + row.width ≤ length c.self.inside.block = omega (arith, fits.inside, c.bytes.ensures.block.length) in
     let narrow = fits.narrow in
     search rules
