@@ -1,0 +1,1 @@
+// Packs laid out by hand, and each call once.
