@@ -48,4 +48,6 @@ pub record IsSound (size : ℕ) (found : Found) : Type 0 where
   pub copy : found.copy < 2
   pub passes : copy_passes found.sup ≡ true
   pub fits : refusal_of size found.sup ≡ None
+  pub few : block_count found.sup ≤ 2 ^ 28
+  pub held : block_count found.sup ≤ size
   pub room : 2 ≤ size

@@ -1,7 +1,7 @@
 // The superblock of a disk.
-ghost use Rattle.std.specs.Prelude.{◌≡◌, ◌≤◌, ◌<◌, ℕ, Some, None, true, false, Ok, IfSome, IfOk, OnOk, OnErr, IsErrOf};
+ghost use Rattle.std.specs.Prelude.{◌≡◌, ◌≤◌, ◌<◌, ◌^◌, ℕ, Some, None, true, false, Ok, IfSome, IfOk, OnOk, OnErr, IsErrOf};
 ghost use Rattle.f2_bytes.specs.Bytes.{Image, block_at};
-ghost use Rattle.f2_bytes.specs.Superblock.{copy_passes, has_twins};
+ghost use Rattle.f2_bytes.specs.Superblock.{copy_passes, block_count, has_twins};
 ghost use Rattle.f2_disk.specs.Disk.{State, Reads, Goes, Rose};
 ghost use Rattle.f2_super.specs.Copy.{copy_in};
 ghost use Rattle.f2_super.specs.Choice.{found_of};
@@ -78,6 +78,8 @@ fn copy_at<D: Disk>(d: &mut D, size: u64, at: u64) -> Result<Option<Super>, Disk
 #[tactic(auto, unfolding(crate::specs::Load::refusal_of, f2_bytes::specs::Superblock::unsupported_features))]
 fn refusal(size: u64, sup: &Super) -> Option<SuperRefusal>
     ensures value { result ≡ refusal_of size sup.now }
+    ensures few { result ≡ None → block_count sup.now ≤ 2 ^ 28 }
+    ensures held { result ≡ None → block_count sup.now ≤ size }
     ensures room { result ≡ None → copy_passes sup.now ≡ true → 2 ≤ size }
     ensures no_fault { result ≡ Some SuperRefusal.DiskFault → ⊥ }
 {
