@@ -1,6 +1,8 @@
 //! The mount: an image as it is read through its superblock and its checkpoint pack.
 #![tactic(auto)]
 
+mod accessors;
 mod mounting;
 
-pub use mounting::{Mount, MountRefusal, mount};
+pub use accessors::Mount;
+pub use mounting::{MountRefusal, mount};

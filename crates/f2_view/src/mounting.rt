@@ -5,12 +5,11 @@ ghost use Rattle.f2_disk.specs.Disk.{Reads, Goes, Rose};
 ghost use Rattle.f2_view.specs.Mounted.{IsMounted};
 ghost use Rattle.f2_view.specs.Mounting.{mounted, super_refusal, pack_refusal, OrFails};
 
-use f2_bytes::Layout;
 use f2_disk::Disk;
-use f2_pack::{Chosen, Log, PackRefusal, choose};
-use f2_super::{Found, SuperRefusal, load};
+use crate::Mount;
+use f2_pack::{PackRefusal, choose};
+use f2_super::{SuperRefusal, load};
 use std::alloc::Global;
-use std::marker::Model;
 use thiserror::Error;
 
 /// Why an image can't be mounted.
@@ -73,21 +72,6 @@ impl From<PackRefusal> for MountRefusal {
     }
 }
 
-/// An image that is mounted: what is kept of its superblock and its checkpoint pack.
-#[derive(Drop)]
-pub struct Mount {
-    found: Found,
-    chosen: Chosen,
-}
-
-impl Model for Mount {
-    ghost use Rattle.f2_view.specs.Mounted.{Mounted};
-
-    ghost Value = { Mounted };
-
-    ghost view = { λ m. record { found = m.found; chosen = m.chosen } };
-}
-
 /// Mounts the image of a disk. It reads alone.
 pub fn mount<D: Disk>(alloc: Global, d: &mut D) -> Result<Mount, MountRefusal>
     // Exactly which answer, where the disk tells its blocks.
@@ -102,48 +86,5 @@ pub fn mount<D: Disk>(alloc: Global, d: &mut D) -> Result<Mount, MountRefusal>
     let found = load(d)?;
     let layout = found.sup.layout();
     let chosen = choose(alloc, d, &layout)?;
-    Ok(Mount { found, chosen })
-}
-
-impl Mount {
-    ghost use Rattle.std.specs.Prelude.{◌<◌};
-    ghost use Rattle.f2_bytes.specs.Superblock.{layout_of};
-    ghost use Rattle.f2_bytes.specs.Checkpoint.{log, checkpoint_ver};
-    ghost use Rattle.f2_pack.specs.Logs.{log_of};
-
-    /// Where the areas of the image lie.
-    pub fn layout(&self) -> Layout
-        ensures { result ≡ layout_of self.now.found.sup }
-    {
-        self.found.sup.layout()
-    }
-
-    /// The superblock copy that counts.
-    pub fn found(&self) -> &Found
-        ensures { result.now ≡ self.now.found }
-    {
-        &self.found
-    }
-
-    /// What is kept of the checkpoint pack that counts.
-    pub fn chosen(&self) -> &Chosen
-        ensures { result.now ≡ self.now.chosen }
-    {
-        &self.chosen
-    }
-
-    /// Log `t`: 0 to 2 are hot, warm and cold data, 3 to 5 hot, warm and cold nodes.
-    pub fn log(&self, t: usize) -> Log
-        requires { t < 6 }
-        ensures { log_of result ≡ log self.now.chosen.head t }
-    {
-        self.chosen.log(t)
-    }
-
-    /// The version of the checkpoint.
-    pub fn version(&self) -> u64
-        ensures { result ≡ checkpoint_ver self.now.chosen.head }
-    {
-        self.chosen.head().field(0)
-    }
+    Ok(Mount::of(found, chosen))
 }

@@ -1,0 +1,70 @@
+// What a mount keeps.
+use f2_bytes::Layout;
+use f2_pack::{Chosen, Log};
+use f2_super::Found;
+use std::marker::Model;
+
+/// An image that is mounted: what is kept of its superblock and its checkpoint pack.
+#[derive(Drop)]
+pub struct Mount {
+    found: Found,
+    chosen: Chosen,
+}
+
+impl Model for Mount {
+    ghost use Rattle.f2_view.specs.Mounted.{Mounted};
+
+    ghost Value = { Mounted };
+
+    ghost view = { λ m. record { found = m.found; chosen = m.chosen } };
+}
+
+impl Mount {
+    ghost use Rattle.std.specs.Prelude.{◌≡◌, ◌<◌};
+    ghost use Rattle.f2_bytes.specs.Superblock.{layout_of};
+    ghost use Rattle.f2_bytes.specs.Checkpoint.{log, checkpoint_ver};
+    ghost use Rattle.f2_pack.specs.Logs.{log_of};
+
+    // The mount of an image with this superblock and this checkpoint pack.
+    pub(crate) fn of(found: Found, chosen: Chosen) -> Mount
+        ensures { result ≡ record { found = found; chosen = chosen } }
+    {
+        Mount { found, chosen }
+    }
+
+    /// Where the areas of the image lie.
+    pub fn layout(&self) -> Layout
+        ensures { result ≡ layout_of self.now.found.sup }
+    {
+        self.found.sup.layout()
+    }
+
+    /// The superblock copy that counts.
+    pub fn found(&self) -> &Found
+        ensures { result.now ≡ self.now.found }
+    {
+        &self.found
+    }
+
+    /// What is kept of the checkpoint pack that counts.
+    pub fn chosen(&self) -> &Chosen
+        ensures { result.now ≡ self.now.chosen }
+    {
+        &self.chosen
+    }
+
+    /// Log `t`: 0 to 2 are hot, warm and cold data, 3 to 5 hot, warm and cold nodes.
+    pub fn log(&self, t: usize) -> Log
+        requires { t < 6 }
+        ensures { log_of result ≡ log self.now.chosen.head t }
+    {
+        self.chosen.log(t)
+    }
+
+    /// The version of the checkpoint.
+    pub fn version(&self) -> u64
+        ensures { result ≡ checkpoint_ver self.now.chosen.head }
+    {
+        self.chosen.head().field(0)
+    }
+}
