@@ -1,5 +1,5 @@
 -- What is kept of a pack, and what it says of the pack.
-use Rattle.std.proofs.Common.{◌≡◌, ℕ, zero, suc, ◌+◌, ◌-◌, ◌*◌, ◌/◌, ◌<◌, ◌≤◌, Bool, true, false, cond, nat_le, nat_lt, not, ◌&&◌, List, [], ◌∷◌, length, map, Some, None, Ok, Err, refl, sym, ap, ◌∙◌, arith}
+use Rattle.std.proofs.Common.{◌≡◌, ℕ, zero, suc, ◌+◌, ◌-◌, ◌*◌, ◌/◌, ◌<◌, ◌≤◌, Bool, true, false, cond, nat_le, nat_lt, not, ◌&&◌, List, [], ◌∷◌, ◌++◌, length, map, Some, None, Ok, Err, refl, sym, ap, ◌∙◌, arith}
 use Rattle.std.specs.Prelude.{◌==◌, if◌then◌else◌, sum, sum_by, take}
 use Rattle.std.specs.List.{range_with_len}
 use Rattle.std.proofs.lemmas.Bool.{ltb-true, ltb-false, lt-ltb}
@@ -16,6 +16,18 @@ use Rattle.f2_pack.specs.Choice.{IsChosen}
 use Rattle.f2_pack.specs.Laws.{KeepsSummaries, ReadsItsBlocks}
 use Rattle.f2_pack.proofs.PackReads.{room, cond_same, compact_low, taken_low, sum_low, count_low, head-frame, nat_area-frame, sit_area-frame, orphans-frame}
 use Rattle.f2_pack.proofs.ValidHeads.{HeadFacts, head_facts, head_of_valid}
+
+-- what is chosen where the test is true
+pub when_true : {A : Type 0} (b : Bool) (x y : A) → b ≡ true → cond b x y ≡ x
+when_true true x y is = refl
+when_true false x y is = cc
+
+-- one number more
+pub range_more : (a n j : ℕ) → a + n ≡ j → range_with_len a (n + 1) ≡ range_with_len a n ++ j ∷ []
+range_more a zero j is = ap (λ k. k ∷ []) (omega (arith, is))
+range_more a (suc n) j is =
+    let shifted : suc n + 1 ≡ suc (n + 1) = omega arith in
+    ap (range_with_len a) shifted ∙ ap (λ l. a ∷ l) (range_more (a + 1) n j (omega (arith, is)))
 
 -- one of the blocks
 pub block_in : (pack : Pack) (start count j : ℕ) → j < count → block_at (blocks_of pack start count) j ≡ pack (start + j)
@@ -76,10 +88,6 @@ module _ (head : Block) (fits : has_room_for_summaries head ≡ true) where
       go : (n : Bool) → 1 ≤ pack_start_sum head → pack_start_sum head + data_summary_blocks head + cond {A = ℕ} n 3 0 + 1 ≤ pack_total_block_count head → 0 < cond {A = ℕ} n 3 0 → pack_total_block_count head - 4 + cond {A = ℕ} n 3 0 < pack_total_block_count head
       go true first all some = omega (arith, first, all)
       go false first all some = absurd (omega (arith, some))
-
-when_true : {A : Type 0} (b : Bool) (x y : A) → b ≡ true → cond b x y ≡ x
-when_true true x y is = refl
-when_true false x y is = cc
 
 some_nodes : (head : Block) → has_node_summaries head ≡ true → node_summary_blocks head ≡ 3
 some_nodes head has = ap (λ n. cond n 3 0) has
