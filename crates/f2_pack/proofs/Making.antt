@@ -151,3 +151,7 @@ read_soundly l order head block valid number low records inodes summaries nodes 
       nat_journal = nat_same;
       sit_journal = sit_same;
     }
+
+-- a pack lies in the image
+pub pack_inside : (l : Layout) → IsInOrder l → (number : ℕ) → number < 2 → l.cp + 512 * number + 512 ≤ l.blocks
+pack_inside l order number low = omega (arith, order.sit, order.nat, order.ssa, order.main, order.inside)
