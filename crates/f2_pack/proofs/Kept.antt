@@ -1,5 +1,5 @@
 -- What is kept of a pack, and what it says of the pack.
-use Rattle.std.proofs.Common.{◌≡◌, ℕ, zero, suc, ◌+◌, ◌-◌, ◌*◌, ◌/◌, ◌<◌, ◌≤◌, Bool, true, false, cond, nat_le, nat_lt, not, ◌&&◌, List, [], ◌∷◌, length, map, Some, None, Ok, Err, refl, sym, ap, ◌∙◌, arith}
+use Rattle.std.proofs.Common.{◌≡◌, ℕ, zero, suc, ◌+◌, ◌-◌, ◌*◌, ◌/◌, ◌<◌, ◌≤◌, Bool, true, false, cond, nat_le, nat_lt, not, ◌&&◌, List, [], ◌∷◌, ◌++◌, length, map, get_or, Some, None, Ok, Err, refl, sym, ap, ◌∙◌, arith}
 use Rattle.std.specs.Prelude.{◌==◌, if◌then◌else◌, sum, sum_by, take}
 use Rattle.std.specs.List.{range_with_len}
 use Rattle.std.proofs.lemmas.Bool.{ltb-true, ltb-false, lt-ltb}
@@ -16,6 +16,18 @@ use Rattle.f2_pack.specs.Choice.{IsChosen}
 use Rattle.f2_pack.specs.Laws.{KeepsSummaries, ReadsItsBlocks}
 use Rattle.f2_pack.proofs.PackReads.{room, cond_same, compact_low, taken_low, sum_low, count_low, head-frame, nat_area-frame, sit_area-frame, orphans-frame}
 use Rattle.f2_pack.proofs.ValidHeads.{HeadFacts, head_facts, head_of_valid}
+
+-- what is chosen where the test is true
+pub when_true : {A : Type 0} (b : Bool) (x y : A) → b ≡ true → cond b x y ≡ x
+when_true true x y is = refl
+when_true false x y is = cc
+
+-- one number more
+pub range_more : (a n j : ℕ) → a + n ≡ j → range_with_len a (n + 1) ≡ range_with_len a n ++ j ∷ []
+range_more a zero j is = ap (λ k. k ∷ []) (omega (arith, is))
+range_more a (suc n) j is =
+    let shifted : suc n + 1 ≡ suc (n + 1) = omega arith in
+    ap (range_with_len a) shifted ∙ ap (λ l. a ∷ l) (range_more (a + 1) n j (omega (arith, is)))
 
 -- one of the blocks
 pub block_in : (pack : Pack) (start count j : ℕ) → j < count → block_at (blocks_of pack start count) j ≡ pack (start + j)
@@ -77,20 +89,16 @@ module _ (head : Block) (fits : has_room_for_summaries head ≡ true) where
       go true first all some = omega (arith, first, all)
       go false first all some = absurd (omega (arith, some))
 
-when_true : {A : Type 0} (b : Bool) (x y : A) → b ≡ true → cond b x y ≡ x
-when_true true x y is = refl
-when_true false x y is = cc
-
 some_nodes : (head : Block) → has_node_summaries head ≡ true → node_summary_blocks head ≡ 3
 some_nodes head has = ap (λ n. cond n 3 0) has
 
 -- an entry of the compact form stands in one of its blocks
-pub compact_inside : (l : Layout) (head : Block) → agrees_with_layout l head ≡ true → (t k : ℕ) → nat_lt t 3 ≡ true → is_compact head ≡ true → nat_lt k (compact_count head t) ≡ true → (compact_place (map (compact_count head) data_log_numbers) t k).0 < data_summary_blocks head
-compact_inside l head logs t k early small inside =
+pub compact_inside : (head : Block) → ((n : ℕ) → n < 3 → compact_count head n ≤ 512) → (t k : ℕ) → t < 3 → is_compact head ≡ true → k < compact_count head t → (compact_place (map (compact_count head) data_log_numbers) t k).0 < data_summary_blocks head
+compact_inside head most_each t k early small inside =
     let c = compact_count head in
     let few : data_summary_blocks head ≡ compact_blocks head = ap (λ s. cond s (compact_blocks head) 3) small in
-    let most : sum_by c data_log_numbers ≤ 1536 = sum_low c (count_low l head logs 0 (omega arith)) (count_low l head logs 1 (omega arith)) (count_low l head logs 2 (omega arith)) in
-    let entry : sum (take t (map c data_log_numbers)) + k < sum_by c data_log_numbers = taken_low c t k (ltb-true t 3 early) (ltb-true k (c t) inside) in
+    let most : sum_by c data_log_numbers ≤ 1536 = sum_low c (most_each 0 (omega arith)) (most_each 1 (omega arith)) (most_each 2 (omega arith)) in
+    let entry : sum (take t (map c data_log_numbers)) + k < sum_by c data_log_numbers = taken_low c t k early inside in
     let at : (compact_place (map c data_log_numbers) t k).0 < compact_blocks head = compact_low (sum_by c data_log_numbers) (sum (take t (map c data_log_numbers)) + k) most entry in
     omega (arith, few, at)
 
@@ -131,9 +139,26 @@ keeps_summaries l pack number valid t k low inside =
     ∙ cond_same (nat_lt t 3)
     (λ early. cond_same (is_compact head)
     (λ small. cond_same (nat_lt k (compact_count head t))
-    (λ below. ap (λ b. Some (summary_at b place.1)) (block_in pack start count place.0 (compact_inside l head facts.agrees t k early small below)))
+    (λ below. ap (λ b. Some (summary_at b place.1)) (block_in pack start count place.0 (compact_inside head (λ n few. count_low l head facts.agrees n (omega (arith, few))) t k (ltb-true t 3 early) small (ltb-true k (compact_count head t) below))))
     (λ past. refl))
     (λ wide. ap (λ b. Some (summary_entry b k)) (block_in pack start count t (omega (arith, ltb-true t 3 early, wide_data head wide)))))
     (λ node. cond_same (has_node_summaries head)
     (λ has. ap (λ b. Some (summary_entry b k)) (block_in pack (node_summary_start head) (node_summary_blocks head) (t - 3) (omega (arith, low, ltb-false t 3 node, some_nodes head has))))
     (λ none. refl))
+
+pub count_at : (c : ℕ → ℕ) (t : ℕ) → t < 3 → get_or (map c data_log_numbers) t 0 ≡ c t
+count_at c zero low = refl
+count_at c (suc zero) low = refl
+count_at c (suc (suc zero)) low = refl
+count_at c (suc (suc (suc t))) low = absurd (omega (arith, low))
+
+-- the entry that was read of the compact form
+pub compact_kept : (head : Block) (summaries : List Block) (t k : ℕ) (counts : List ℕ) (place : ℕ × ℕ) (b : Block)
+    → is_compact head ≡ true → counts ≡ map (compact_count head) data_log_numbers → k < compact_count head t → place ≡ compact_place counts t k → b ≡ block_at summaries place.0
+    → Some (summary_at b place.1) ≡ data_summary_in head summaries t k
+compact_kept head summaries t k counts place b small is_counts inside is_place is_block =
+    let at : place ≡ compact_place (map (compact_count head) data_log_numbers) t k = is_place ∙ ap (λ l. compact_place l t k) is_counts in
+    ap (λ x. Some (summary_at x place.1)) is_block
+    ∙ ap (λ (p : ℕ × ℕ). Some (summary_at (block_at summaries p.0) p.1)) at
+    ∙ sym (when_true (nat_lt k (compact_count head t)) _ None (lt-ltb k (compact_count head t) inside))
+    ∙ sym (when_true (is_compact head) _ (Some (summary_entry (block_at summaries t) k)) small)

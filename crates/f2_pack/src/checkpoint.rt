@@ -1,5 +1,5 @@
 // The head of a pack.
-ghost use Rattle.std.specs.Prelude.{◌≡◌, ◌≤◌, ◌<◌, ◌+◌, ◌^◌, length};
+ghost use Rattle.std.specs.Prelude.{◌≡◌, ◌≤◌, ◌<◌, ◌+◌, ◌^◌, length, true};
 ghost use Rattle.f2_bytes.specs.Bytes.{number_at};
 
 use f2_bytes::{CHECKPOINT, Field, FieldTable};
@@ -49,9 +49,9 @@ pub(crate) fn number(b: &Block, at: usize, width: usize) -> u64
 impl Checkpoint {
     ghost use Rattle.f2_bytes.specs.Bytes.{IsBlock};
     ghost use Rattle.f2_bytes.specs.Fields.{row_at};
-    ghost use Rattle.f2_bytes.specs.Checkpoint.{checkpoint_rows, checkpoint_row, log, compact_count, compact_blocks, data_summary_blocks, node_summary_blocks};
+    ghost use Rattle.f2_bytes.specs.Checkpoint.{checkpoint_rows, checkpoint_row, log, compact_count, compact_blocks, data_summary_blocks, node_summary_blocks, has_room_for_summaries};
     ghost use Rattle.f2_bytes.specs.Checkpoint.{has_orphans as has_orphan_blocks, is_compact as has_compact_form, has_node_summaries as has_summaries_of_nodes};
-    ghost use Rattle.f2_bytes.specs.Journal.{data_summary_start};
+    ghost use Rattle.f2_bytes.specs.Journal.{data_summary_start, node_summary_start};
 
     // The head in this block.
     pub(crate) fn of(block: &Block) -> Checkpoint
@@ -171,5 +171,24 @@ impl Checkpoint {
         ensures few { result ≤ 3 }
     {
         if self.has_node_summaries() { 3 } else { 0 }
+    }
+
+    // The first of those of the data logs.
+    pub(crate) fn data_start(&self) -> u64
+        requires { has_room_for_summaries self.now ≡ true }
+        ensures { result ≡ data_summary_start self.now }
+    {
+        if self.is_compact() {
+            self.field(40)
+        } else {
+            self.field(39) - self.node_blocks() - 4
+        }
+    }
+
+    // The first of those of the node logs. A pack without them may have less than 4 blocks.
+    pub(crate) fn node_start(&self) -> u64
+        ensures { result ≡ node_summary_start self.now }
+    {
+        self.field(39).saturating_sub(4)
     }
 }

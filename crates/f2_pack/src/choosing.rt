@@ -120,18 +120,13 @@ fn read_pack<D: Disk>(
     ensures goes { Goes (D.state d.old) (D.state d.new) }
     ensures fault { IsErrOf result PackRefusal.DiskFault → Rose (D.state d.old).faults (D.state d.new).faults }
 {
-    let at = u64::from(l.cp) + 512 * u64::from(pack);
-    let total = head.field(39);
-    let nodes = head.node_blocks();
-    let first = if head.is_compact() {
-        head.field(40)
-    } else {
-        total - nodes - 4
-    };
-    let data_summaries = read_blocks(alloc, d, at, first, head.data_blocks())?;
+    let block = head.block();
+    prove!(block.bytes().len() == 4096);
+    let start = u64::from(l.cp) + 512 * u64::from(pack);
+    let data_summaries = read_blocks(alloc, d, start, head.data_start(), head.data_blocks())?;
     let records = journals(head, &data_summaries)?;
-    let node_summaries = read_blocks(alloc, d, at, total - 4, nodes)?;
-    let orphans = read_orphans(alloc, d, at, head)?;
+    let node_summaries = read_blocks(alloc, d, start, head.node_start(), head.node_blocks())?;
+    let orphans = read_orphans(alloc, d, start, head)?;
     Ok(Chosen::of(
         head,
         pack,

@@ -51,7 +51,7 @@ fn summary_from(b: &Block, at: usize) -> Summary
 fn node_entry(head: &Checkpoint, summaries: &[Block], t: usize, k: usize) -> Option<Summary>
     requires log { t < 3 }
     requires entry { k < 512 }
-    requires blocks { length summaries.now ≡ node_summary_blocks head.now }
+    requires length { length summaries.now ≡ node_summary_blocks head.now }
     ensures { option_map summary_of result ≡ (if has_node_summaries head.now then Some (summary_entry (block_at summaries.now t) k) else None) }
 {
     if head.has_node_summaries() {
@@ -74,7 +74,7 @@ fn part(head: &Checkpoint, start: usize, len: usize) -> &[u8]
 fn compact_entry(head: &Checkpoint, summaries: &[Block], t: usize, k: usize) -> Option<Summary>
     requires log { t < 3 }
     requires compact { is_compact head.now ≡ true }
-    requires blocks { length summaries.now ≡ data_summary_blocks head.now }
+    requires length { length summaries.now ≡ data_summary_blocks head.now }
     requires counts { (n : ℕ) → n < 3 → compact_count head.now n ≤ 512 }
     ensures { option_map summary_of result ≡ data_summary_in head.now summaries.now t k }
 {

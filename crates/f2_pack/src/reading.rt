@@ -1,5 +1,5 @@
 // Reading what is kept of a pack.
-ghost use Rattle.std.specs.Prelude.{◌≡◌, ◌≤◌, ◌<◌, ◌+◌, ◌-◌, ◌*◌, ◌++◌, [], if◌then◌else◌, ℕ, Some, true, Ok, IfOk, IfErr, OnOk, IsErrOf, length, map, flat_map};
+ghost use Rattle.std.specs.Prelude.{◌≡◌, ◌≤◌, ◌<◌, ◌+◌, ◌-◌, ◌*◌, ◌^◌, ◌++◌, [], if◌then◌else◌, ℕ, Some, true, Ok, IfOk, IfErr, OnOk, IsErrOf, length, map, flat_map};
 ghost use Rattle.std.specs.List.{range_with_len};
 ghost use Rattle.f2_bytes.specs.Bytes.{Image, IsBlock, block_at, bytes_at};
 ghost use Rattle.f2_bytes.specs.Checkpoint.{data_summary_blocks, pack_start_sum, orphans_in, has_orphans};
@@ -21,7 +21,8 @@ pub(crate) fn read_blocks<D: Disk>(
     start: u64,
     count: u64,
 ) -> Result<Vec<Block>, PackRefusal>
-    requires { pack + start + count ≤ (D.state d.old).size }
+    requires inside { pack + start + count ≤ (D.state d.old).size }
+    requires few { pack + start + count ≤ 2 ^ 28 }
     ensures blocks { IfOk result (λ v. (image : Image) → (D.state d.old).told ≡ Some image → v.items ≡ map (λ j. block_at image (pack + j)) (range_with_len start count)) }
     ensures count { IfOk result (λ v. length v.items ≡ count) }
     ensures reads { Reads (D.state d.old) (D.state d.new) }
@@ -95,7 +96,9 @@ pub(crate) fn read_orphans<D: Disk>(
     pack: u64,
     head: &Checkpoint,
 ) -> Result<Vec<u32>, PackRefusal>
-    requires { pack + pack_start_sum head.now ≤ (D.state d.old).size }
+    requires first { 1 ≤ pack_start_sum head.now }
+    requires inside { pack + pack_start_sum head.now ≤ (D.state d.old).size }
+    requires few { pack + pack_start_sum head.now ≤ 2 ^ 28 }
     ensures orphans { IfOk result (λ v. (image : Image) → (D.state d.old).told ≡ Some image → v.items ≡ (if has_orphans head.now then flat_map (λ j. orphans_in (block_at image (pack + j))) (range_with_len 1 (pack_start_sum head.now - 1)) else [])) }
     ensures reads { Reads (D.state d.old) (D.state d.new) }
     ensures goes { Goes (D.state d.old) (D.state d.new) }
