@@ -1,19 +1,23 @@
 -- The pack that is written, and what is read of it.
-use Rattle.std.proofs.Common.{◌≡◌, ℕ, zero, suc, ◌+◌, ◌-◌, ◌≤◌, ◌<◌, Bool, true, false, cond, List, [], ◌∷◌, ◌++◌, length, take, map, Some, Ok, Err, refl, sym, ap, ◌∙◌, arith}
+use Rattle.std.proofs.Common.{◌≡◌, ℕ, zero, suc, ◌+◌, ◌-◌, ◌≤◌, ◌<◌, Bool, true, false, cond, nat_le, not, ◌&&◌, List, [], ◌∷◌, ◌++◌, length, take, map, Some, None, Ok, Err, refl, sym, ap, ◌∙◌, arith}
 use Rattle.std.specs.Prelude.{slice_range, flat_map, ◌||◌, ◌==◌}
-use Rattle.std.proofs.lemmas.Bool.{and_parts, leb-true}
+use Rattle.std.proofs.lemmas.Bool.{and_parts, leb-true, le-leb, lt-leb}
 use Rattle.f2_bytes.specs.Bytes.{Block, Image, IsBlock, block_at, number_at, with_number, has_bit}
 use Rattle.f2_bytes.specs.Checksum.{with_seal, crc, magic_number}
 use Rattle.f2_bytes.specs.declared.layout.Layout.{Layout}
-use Rattle.f2_bytes.specs.Checkpoint.{Pack, pack_at, pack_head, pack_total_block_count, ckpt_flags, chosen_pack, is_pack_valid, is_compact, has_orphans, has_node_summaries, data_summary_blocks, node_summary_blocks, compact_blocks}
+use Rattle.f2_bytes.specs.Checkpoint.{Pack, pack_at, pack_head, pack_total_block_count, pack_start_sum, ckpt_flags, checkpoint_ver, chosen_pack, is_pack_valid, is_compact, has_orphans, has_node_summaries, data_summary_blocks, node_summary_blocks, compact_blocks}
 use Rattle.f2_bytes.specs.Journal.{data_summary_start, node_summary_start, nat_journal_area, sit_journal_area, journal_count, nat_room, sit_room, are_journals_bounded}
 use Rattle.f2_bytes.proofs.Numbers.{number_at-front, take-with_number, length-with_number}
 use Rattle.f2_pack.specs.declared.writing.NewPack.{NewPack}
 use Rattle.f2_pack.specs.Held.{blocks_of, chosen_of}
-use Rattle.f2_pack.specs.Laws.{WrittenIsRead}
+use Rattle.f2_pack.specs.Laws.{HigherCounts, WrittenIsChosen, WrittenIsRead}
 use Rattle.f2_pack.specs.Written.{written, written_blocks, IsNormal}
-use Rattle.f2_pack.proofs.Kept.{reads_its_blocks}
-use Rattle.f2_pack.proofs.PackReads.{chosen_valid}
+use Rattle.f2_pack.specs.Choice.{choice_in, read_of, version_limit}
+use Rattle.f2_pack.specs.declared.choosing.PackRefusal.TheVariants.{VersionLimit}
+use Rattle.f2_pack.proofs.Kept.{reads_its_blocks, when_false}
+use Rattle.f2_pack.proofs.Making.{bounded_value}
+use Rattle.f2_pack.proofs.PackReads.{chosen_valid, nat_area-frame, sit_area-frame}
+use Rattle.f2_pack.proofs.ValidHeads.{head_facts, head_of_valid}
 
 -- a seal keeps the numbers that stand before its place
 number_at-with_seal : (b : Block) (i n : ℕ) → length b ≡ 4096 → i + n ≤ 164 → number_at (with_seal b) i n ≡ number_at b i n
@@ -51,7 +55,7 @@ normal_facts head normal =
       compact = compact;
       orphans = ap (λ f. has_bit f 1) normal.flags;
       nodes = nodes;
-      data_start = λ i. cond (compact i) (Rattle.f2_bytes.specs.Checkpoint.pack_start_sum head) (normal.total i - node_blocks i - 4);
+      data_start = λ i. cond (compact i) (pack_start_sum head) (normal.total i - node_blocks i - 4);
       data_blocks = ap (λ c. cond c (compact_blocks head) 3) compact;
       node_start = ap (λ n. n - 4) normal.total;
       node_blocks = node_blocks;
@@ -109,3 +113,50 @@ written_is_read l image p size six normal chosen same =
     let is_head : pack 0 ≡ with_seal p.head = same 0 (omega arith) in
     let total : pack_total_block_count (pack_head pack) ≡ 8 = ap pack_total_block_count is_head ∙ (normal_sealed p.head size normal).total in
     sym (reads_its_blocks l pack (written p) p.pack (chosen_valid l image p.pack chosen) (λ j below. sym (same j (omega (arith, below, total)))))
+
+pub written_is_chosen : WrittenIsChosen
+written_is_chosen l image p size six normal chosen same bounded low =
+    let pack = pack_at l image p.pack in
+    let valid = chosen_valid l image p.pack chosen in
+    let is_head : pack 0 ≡ with_seal p.head = same 0 (omega arith) in
+    let total : pack_total_block_count (pack_head pack) ≡ 8 = ap pack_total_block_count is_head ∙ (normal_sealed p.head size normal).total in
+    let back : (j : ℕ) → j < pack_total_block_count (pack_head pack) → written p j ≡ pack j = λ j below. sym (same j (omega (arith, below, total))) in
+    let room = (head_facts l (pack_head pack) (head_of_valid l pack valid)).has_room in
+    let few = counts_bounded (written p) bounded in
+    let N = nat_journal_area pack in
+    let S = sit_journal_area pack in
+    let nat_few : journal_count N ≤ nat_room = omega (arith, few.0, ap journal_count (nat_area-frame pack (written p) back room)) in
+    let sit_few : journal_count S ≤ sit_room = omega (arith, few.1, ap journal_count (sit_area-frame pack (written p) back room)) in
+    let version : checkpoint_ver (pack_head pack) ≡ checkpoint_ver p.head = ap checkpoint_ver is_head ∙ number_at-with_seal p.head 0 8 size (omega arith) in
+    let below : nat_le version_limit (checkpoint_ver (pack_head pack)) ≡ false = lt-leb version_limit (checkpoint_ver (pack_head pack)) (omega (arith, version, low)) in
+    ap (choice_in (pack_at l image)) chosen
+    ∙ when_false (nat_le version_limit (checkpoint_ver (pack_head pack))) (Err (VersionLimit (checkpoint_ver (pack_head pack)))) (read_of pack p.pack) below
+    ∙ bounded_value N S (chosen_of pack p.pack) nat_few sit_few
+    ∙ ap (λ h. Ok h) (written_is_read l image p size six normal chosen same)
+
+-- a valid pack counts where the other isn't valid or has a lower version
+pub higher_counts : HigherCounts
+unfolding chosen_pack
+higher_counts l image zero low valid lower = go (is_pack_valid l (pack_at l image 1)) refl
+  where
+    a : ℕ
+    a = checkpoint_ver (pack_head (pack_at l image 0))
+
+    b : ℕ
+    b = checkpoint_ver (pack_head (pack_at l image 1))
+
+    go : (w : Bool) → is_pack_valid l (pack_at l image 1) ≡ w → chosen_pack l image ≡ Some 0
+    go false is = λ i. cond (valid i && (not (is i) || nat_le b a)) (Some 0) (cond (is i) (Some 1) None)
+    go true is = λ i. cond (valid i && (not (is i) || le-leb b a (omega (arith, lower is)) i)) (Some 0) (cond (is i) (Some 1) None)
+higher_counts l image (suc zero) low valid lower = go (is_pack_valid l (pack_at l image 0)) refl
+  where
+    a : ℕ
+    a = checkpoint_ver (pack_head (pack_at l image 0))
+
+    b : ℕ
+    b = checkpoint_ver (pack_head (pack_at l image 1))
+
+    go : (v : Bool) → is_pack_valid l (pack_at l image 0) ≡ v → chosen_pack l image ≡ Some 1
+    go false is = λ i. cond (is i && (not (valid i) || nat_le b a)) (Some 0) (cond (valid i) (Some 1) None)
+    go true is = λ i. cond (is i && (not (valid i) || lt-leb b a (lower is) i)) (Some 0) (cond (valid i) (Some 1) None)
+higher_counts l image (suc (suc n)) low valid lower = absurd (omega (arith, low))
