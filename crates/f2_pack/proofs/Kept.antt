@@ -22,6 +22,10 @@ pub when_true : {A : Type 0} (b : Bool) (x y : A) → b ≡ true → cond b x y 
 when_true true x y is = refl
 when_true false x y is = cc
 
+pub when_false : {A : Type 0} (b : Bool) (x y : A) → b ≡ false → cond b x y ≡ y
+when_false true x y is = cc
+when_false false x y is = refl
+
 -- one number more
 pub range_more : (a n j : ℕ) → a + n ≡ j → range_with_len a (n + 1) ≡ range_with_len a n ++ j ∷ []
 range_more a zero j is = ap (λ k. k ∷ []) (omega (arith, is))

@@ -2,7 +2,7 @@
 use Rattle.std.proofs.Common.{◌≡◌, ℕ, ◌+◌, ◌-◌, ◌*◌, ◌/◌, ◌<◌, ◌≤◌, Bool, true, false, cond, nat_lt, List, [], ◌∷◌, length, map, Result, Ok, Err, refl, sym, ap, ◌∙◌, arith}
 use Rattle.std.specs.Prelude.{flat_map, if◌then◌else◌}
 use Rattle.std.specs.List.{range_with_len}
-use Rattle.std.proofs.lemmas.Bool.{ltb-false}
+use Rattle.std.proofs.lemmas.Bool.{ltb-false, le-ltb}
 use Rattle.std.proofs.lemmas.List.FromFn.{length-map-range_with_len}
 use Rattle.f2_bytes.specs.Bytes.{Block, IsBlock}
 use Rattle.f2_bytes.specs.declared.layout.Layout.{Layout}
@@ -17,7 +17,7 @@ use Rattle.f2_pack.specs.declared.choosing.PackRefusal.TheVariants.{NoPack, Vers
 use Rattle.f2_pack.proofs.ValidHeads.{head_facts}
 use Rattle.f2_pack.proofs.Kept.{nat_area_kept, sit_area_kept}
 
-ok_same : {R : Type 0} (a b : R) → ◌≡◌ {A = Result R PackRefusal} (Ok a) (Ok b) → a ≡ b
+pub ok_same : {R : Type 0} (a b : R) → ◌≡◌ {A = Result R PackRefusal} (Ok a) (Ok b) → a ≡ b
 ok_same a b is = cc
 
 -- where the journals are bounded, a value is answered, and no other
@@ -50,6 +50,16 @@ bounded_err nat sit e kept value is = go (nat_lt nat_room (journal_count nat)) (
     go true q is = cc
     go false true is = cc
     go false false is = absurd (cc is)
+
+-- and where they are, no refusal is
+pub bounded_value : {T : Type 0} (nat sit : List ℕ) (value : T) → journal_count nat ≤ nat_room → journal_count sit ≤ sit_room → where_bounded nat sit value ≡ Ok value
+bounded_value nat sit value few less =
+    let first = le-ltb nat_room (journal_count nat) few in
+    let second = le-ltb sit_room (journal_count sit) less in
+    λ i. cond (first i) (Err (BadSummary (journal_count nat))) (cond (second i) (Err (BadSummary (journal_count sit))) (Ok value))
+
+pub bounded_not_err : {T : Type 0} (nat sit : List ℕ) (e : PackRefusal) (value : T) → journal_count nat ≤ nat_room → journal_count sit ≤ sit_room → Err e ≡ where_bounded nat sit value → ⊥
+bounded_not_err nat sit e value few less is = let no = is ∙ bounded_value nat sit value few less in cc no
 
 -- the answer that was wanted
 pub exactly : {T : Type 0} (answer is : Result T PackRefusal) → answer ≡ is → OrFails answer is
@@ -91,7 +101,7 @@ module _ (pack : Pack) (number : ℕ) (head : Block) (summaries : List Block) (i
   sit_area : sit_area_in head summaries ≡ sit_journal_area pack
   sit_area = (λ i. sit_area_in (sym is_head i) (kept_summaries i)) ∙ sit_area_kept pack
 
-  areas : journals_in (nat_area_in head summaries) (sit_area_in head summaries) ≡ journals_in (nat_journal_area pack) (sit_journal_area pack)
+  pub areas : journals_in (nat_area_in head summaries) (sit_area_in head summaries) ≡ journals_in (nat_journal_area pack) (sit_journal_area pack)
   areas i = journals_in (nat_area i) (sit_area i)
 
   pub refused : (e : PackRefusal) → Err e ≡ journals_in (nat_area_in head summaries) (sit_area_in head summaries) → OrFails (Err e) (read_of pack number)

@@ -1,5 +1,5 @@
 -- What is read of a pack stands in its blocks, as its head counts them.
-use Rattle.std.proofs.Common.{◌≡◌, ℕ, zero, suc, ◌+◌, ◌-◌, ◌*◌, ◌/◌, ◌%◌, ◌<◌, ◌≤◌, List, [], ◌∷◌, Bool, true, false, cond, nat_le, nat_lt, not, ◌||◌, ◌&&◌, Option, Some, None, refl, sym, ap, ◌∙◌, arith}
+use Rattle.std.proofs.Common.{◌≡◌, ℕ, zero, suc, ◌+◌, ◌-◌, ◌*◌, ◌/◌, ◌%◌, ◌<◌, ◌≤◌, List, [], ◌∷◌, length, Bool, true, false, cond, nat_le, nat_lt, not, ◌||◌, ◌&&◌, Option, Some, None, refl, sym, ap, ◌∙◌, arith}
 use Rattle.std.specs.Prelude.{flat_map, sum, take, map, sum_by, get_or, ◌==◌, if◌then◌else◌}
 use Rattle.std.specs.List.{range_with_len, list_all}
 use Rattle.std.proofs.lemmas.List.Sums.{AllPass-from_list_all}
@@ -76,8 +76,9 @@ pub log_valid : (l : Layout) (head : Block) → agrees_with_layout l head ≡ tr
 unfolding agrees_with_layout
 log_valid l head h t low =
     let test = λ (n : ℕ). is_log_valid l (log head n) in
+    let inside : t < length log_numbers = omega (arith, low) in
     let all : list_all test log_numbers ≡ true = (and_parts _ _ h).1 in
-    let at : test (get_or log_numbers t 0) ≡ true = AllPass-from_list_all test log_numbers all t 0 (omega (arith, low)) in
+    let at : test (get_or log_numbers t 0) ≡ true = AllPass-from_list_all test log_numbers all t 0 inside in
     sym (ap test (log_at t low)) ∙ at
 
 pub log_segment_low : (l : Layout) (head : Block) → agrees_with_layout l head ≡ true → (t : ℕ) → t < 6 → (log head t).segment < l.segments
@@ -85,12 +86,12 @@ log_segment_low l head h t low = ltb-true (log head t).segment l.segments (and_p
 
 pub count_low : (l : Layout) (head : Block) → agrees_with_layout l head ≡ true → (t : ℕ) → t < 6 → compact_count head t ≤ 512
 count_low l head h t low =
-    let offset = ltb-true (log head t).offset 512 (and_parts _ _ (and_parts _ _ (log_valid l head h t low)).0).1 in
-    go ((log head t).allocation == 1) (omega (arith, offset))
+    let offset : (log head t).offset < 512 = ltb-true (log head t).offset 512 (and_parts _ _ (and_parts _ _ (log_valid l head h t low)).0).1 in
+    go ((log head t).allocation == 1) (log head t).offset offset
   where
-    go : {x : ℕ} (b : Bool) → x ≤ 512 → cond b 512 x ≤ 512
-    go true h = omega arith
-    go false h = h
+    go : (b : Bool) (x : ℕ) → x < 512 → cond b 512 x ≤ 512
+    go true x h = omega arith
+    go false x h = omega (arith, h)
 
 -- a choice is the same where each side that is taken is
 pub cond_same : {A : Type 0} (b : Bool) {x y z w : A} → (b ≡ true → x ≡ y) → (b ≡ false → z ≡ w) → cond b x z ≡ cond b y w

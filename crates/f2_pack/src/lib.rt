@@ -15,7 +15,9 @@ mod writing;
 pub use checkpoint::{Checkpoint, Log};
 pub use choosing::{PackRefusal, choose};
 pub use chosen::Chosen;
-pub use laws::{pack_reads_its_blocks, pack_summaries_are_kept, written_pack_is_read};
+pub use laws::{
+    higher_pack_counts, pack_reads_its_blocks, pack_summaries_are_kept, written_pack_is_read,
+};
 pub use writing::{NewPack, write_body, write_head};
 
 #[cfg(test)]

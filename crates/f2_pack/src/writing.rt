@@ -1,5 +1,6 @@
 // Writing a pack.
 ghost use Rattle.std.specs.Prelude.{◌≡◌, ◌≤◌, ◌<◌, ◌+◌, length, slice_range, true, IfOk};
+ghost use Rattle.f2_bytes.specs.Bytes.{IsBlock};
 ghost use Rattle.f2_bytes.specs.Checkpoint.{is_pack_valid, pack_total_block_count};
 ghost use Rattle.f2_bytes.specs.Checksum.{with_seal};
 ghost use Rattle.f2_bytes.specs.Journal.{are_journals_bounded};
@@ -27,13 +28,17 @@ pub struct NewPack {
 
 // A block with its seal put in.
 fn sealed_copy(b: &Block) -> Block
-    ensures { result ≡ with_seal b.now }
+    ensures bytes { result ≡ with_seal b.now }
+    ensures size { length b.now ≡ 4096 }
+    ensures block { IsBlock result }
 {
     let mut bytes = [0; 4096];
     bytes.copy_from_slice(b.bytes());
     seal(&mut bytes);
     let mut copy = Block::zeros();
     copy.put(0, &bytes);
+    let written = copy.bytes();
+    prove!(written.len() == 4096);
     copy
 }
 
@@ -79,9 +84,7 @@ impl Chosen {
         ensures value { IfOk result (λ c. c ≡ chosen_of (written p.now) p.now.pack) }
         ensures sound { IfOk result (IsChosen l.now) }
     {
-        let mut block = Block::zeros();
-        write_head(p, &mut block);
-        let head = Checkpoint::of(&block);
+        let head = Checkpoint::of(&sealed_copy(&p.head));
         let records = match journals(&head, three(&p.sums, 0)) {
             Ok(records) => records,
             Err(_) => unreachable!(),
