@@ -29,6 +29,12 @@ pub enum Refusal {
     TooLarge(u64),
     /// The superblock says that there are `blocks` blocks, more than the `held` ones of the disk.
     Truncated { blocks: u64, held: u64 },
+    /// Neither checkpoint pack is valid.
+    NoPack,
+    /// The version of the checkpoint is 2^62 or more.
+    VersionLimit(u64),
+    /// A journal says this many records: more than 38 of the node address table, or more than 6 of the segment table.
+    BadSummary(u32),
 }
 
 impl Answer {

@@ -3,9 +3,12 @@
 #![tactic(auto)]
 
 mod answer;
+mod dumps;
+mod jobs;
 mod report;
 mod super_copies;
 mod top;
+mod words;
 
 pub use answer::{Answer, Refusal};
 pub use top::run;

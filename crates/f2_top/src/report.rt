@@ -1,8 +1,9 @@
 // The lines that a run puts.
 ghost use Rattle.std.specs.Prelude.{◌≡◌, ◌++◌, decimal};
 ghost use Rattle.f2_disk.specs.Sink.{Puts};
-ghost use Rattle.f2_top.specs.Text.{refusal_line, last_line};
+ghost use Rattle.f2_top.specs.Text.{refusal_line, last_line, last_of};
 
+use crate::jobs::Job;
 use crate::{Answer, Refusal};
 use f2_disk::{Sink, SinkFault};
 use itoa::Buffer;
@@ -35,11 +36,18 @@ fn put_refusal<O: Sink>(out: &mut O, refusal: &Refusal) -> Result<(), SinkFault>
             put_number(out, b"refused 4 Truncated ", *blocks, b" ")?;
             put_number(out, b"", *held, b"\n")
         }
+        Refusal::NoPack => out.put(b"refused 5 NoPack\n"),
+        Refusal::VersionLimit(version) => {
+            put_number(out, b"refused 6 VersionLimit ", *version, b"\n")
+        }
+        Refusal::BadSummary(count) => {
+            put_number(out, b"refused 7 BadSummary ", u64::from(*count), b"\n")
+        }
     }
 }
 
-/// Puts the last line of an answer. For `SinkFault` and `NoMemory` there is none.
-pub fn put_last<O: Sink>(out: &mut O, answer: &Answer) -> Result<(), SinkFault>
+// Puts the last line of an answer. For `SinkFault` and `NoMemory` there is none.
+fn put_line<O: Sink>(out: &mut O, answer: &Answer) -> Result<(), SinkFault>
     ensures { Puts (last_line answer.now) (O.told out.old) (O.told out.new) (O.faults out.old) (O.faults out.new) result }
 {
     match answer {
@@ -49,5 +57,15 @@ pub fn put_last<O: Sink>(out: &mut O, answer: &Answer) -> Result<(), SinkFault>
         Answer::Usage => out.put(b"usage: f2tools IMAGE TOOL OPTIONS\n"),
         Answer::Refused(refusal) => put_refusal(out, refusal),
         Answer::SinkFault | Answer::NoMemory => Ok(()),
+    }
+}
+
+/// Puts the last line of a job's answer. A dump that is done has none.
+pub fn put_last<O: Sink>(out: &mut O, job: Option<Job>, answer: &Answer) -> Result<(), SinkFault>
+    ensures { Puts (last_of job answer.now) (O.told out.old) (O.told out.new) (O.faults out.old) (O.faults out.new) result }
+{
+    match (job, answer) {
+        (Some(Job::Dump(_)), Answer::Done) => Ok(()),
+        _ => put_line(out, answer),
     }
 }
