@@ -99,23 +99,17 @@ fn head(version: u64, others: &[(usize, u32)]) -> Block {
     sealed(&b)
 }
 
-// A disk of zeros, whose calls with these numbers fail.
-fn blank(alloc: Global, fails: &[u64]) -> Result<MemoryDisk, Fail>
+// A disk with these blocks, each with its number, and zeros elsewhere; the calls with the numbers in `fails` fail.
+fn disk(alloc: Global, fails: &[u64], blocks: &[(u64, Block)]) -> Result<MemoryDisk, Fail>
     ensures { IfOk result (λ d. (memory_of d).blocks ≡ 16384) }
 {
-    let fails = Vec::from_slice(alloc, fails)?;
-    Ok(MemoryDisk::new(alloc, 16384, fails))
-}
-
-// Puts a block of a pack onto the disk.
-fn lay(disk: &mut MemoryDisk, pack: u64, k: u64, b: &Block) -> Result<(), Fail>
-    requires { (memory_of disk.old).blocks ≡ 16384 }
-    ensures { (memory_of disk.new).blocks ≡ 16384 }
-{
-    if pack < 2 && k < 1024 {
-        disk.write(512 + 512 * pack + k, b)?;
+    let mut disk = MemoryDisk::new(alloc, 16384, Vec::from_slice(alloc, fails)?);
+    for (at, block) in blocks {
+        if *at < 16384 {
+            disk.write(*at, block)?;
+        }
     }
-    Ok(())
+    Ok(disk)
 }
 
 fn chosen(alloc: Global, disk: &mut MemoryDisk) -> Result<Chosen, PackRefusal>
@@ -141,17 +135,18 @@ fn heads_have_the_checksums_of_another_program(rt: HostRuntime) {
 fn the_higher_valid_pack_counts(rt: HostRuntime) -> Result<(), Fail> {
     let alloc = rt.alloc();
     for (first, second, tail, pack) in [(7, 8, 8, 1), (8, 7, 7, 0), (7, 7, 7, 0), (7, 8, 6, 0)] {
-        let mut disk = blank(alloc, &[])?;
-        lay(&mut disk, 0, 0, &head(first, &[]))?;
-        lay(&mut disk, 0, 7, &head(first, &[]))?;
-        lay(&mut disk, 1, 0, &head(second, &[]))?;
-        lay(&mut disk, 1, 7, &head(tail, &[]))?;
+        let mut disk = disk(
+            alloc,
+            &[],
+            &[
+                (512, head(first, &[])),
+                (519, head(first, &[])),
+                (1024, head(second, &[])),
+                (1031, head(tail, &[])),
+            ],
+        )?;
         let kept = chosen(alloc, &mut disk)?;
         assert_eq!(rt; kept.pack(), pack, "versions {first}, {second} and {tail}");
-        assert_eq!(rt;
-            kept.head().field(0),
-            if pack == 0 { first } else { second }
-        );
         // 4 writes; then both heads and tails are read, and the summary blocks of the six logs.
         assert_eq!(rt; disk.calls(), 4 + 10);
     }
@@ -162,55 +157,60 @@ fn the_higher_valid_pack_counts(rt: HostRuntime) -> Result<(), Fail> {
 fn a_total_lies_in_the_pack(rt: HostRuntime) -> Result<(), Fail> {
     let alloc = rt.alloc();
     for (total, is_valid) in [(0, false), (7, false), (512, true), (513, false)] {
-        let mut disk = blank(alloc, &[])?;
         let head = head(7, &[(136, total)]);
-        lay(&mut disk, 0, 0, &head)?;
-        lay(&mut disk, 0, u64::from(total.saturating_sub(1)), &head)?;
-        let answer = chosen(alloc, &mut disk);
-        match answer {
-            Ok(kept) => assert!(rt; is_valid && kept.pack() == 0, "total {total}"),
-            Err(refusal) => {
-                assert_eq!(rt; refusal, PackRefusal::NoPack);
-                assert!(rt; !is_valid, "total {total}");
-            }
-        }
+        let last = 512 + u64::from(total.saturating_sub(1));
+        let mut disk = disk(alloc, &[], &[(512, head), (last, head)])?;
+        let is_chosen = chosen(alloc, &mut disk).is_ok();
+        assert_eq!(rt; is_chosen, is_valid, "total {total}");
     }
     Ok(())
+}
+
+// What is answered of a disk with pack 0 of this version, with these numbers of journal records.
+fn refusal(
+    alloc: Global,
+    fails: &[u64],
+    version: u64,
+    nat: u32,
+    sit: u32,
+) -> Result<Option<PackRefusal>, Fail> {
+    let head = head(version, &[]);
+    let hot = summaries(&[(3584, nat)]);
+    let cold = summaries(&[(3584, sit)]);
+    let mut disk = disk(
+        alloc,
+        fails,
+        &[(512, head), (513, hot), (515, cold), (519, head)],
+    )?;
+    Ok(chosen(alloc, &mut disk).err())
 }
 
 #[test]
 fn refusals_name_their_numbers(rt: HostRuntime) -> Result<(), Fail> {
     let alloc = rt.alloc();
-    let mut none = blank(alloc, &[])?;
+    let mut none = disk(alloc, &[], &[])?;
     assert!(rt; matches!(chosen(alloc, &mut none), Err(PackRefusal::NoPack)));
-    let mut fails = blank(alloc, &[3])?;
-    lay(&mut fails, 0, 0, &head(7, &[]))?;
-    lay(&mut fails, 0, 7, &head(7, &[]))?;
-    assert!(rt; matches!(chosen(alloc, &mut fails), Err(PackRefusal::DiskFault)));
+    let limit = 4611686018427387904;
     for (version, nat, sit, wanted) in [
-        (
-            1 << 62,
-            0,
-            0,
-            PackRefusal::VersionLimit(4611686018427387904),
-        ),
-        ((1 << 62) - 1, 39, 0, PackRefusal::BadSummary(39)),
-        (7, 0, 7, PackRefusal::BadSummary(7)),
-        (7, 256, 7, PackRefusal::BadSummary(256)),
+        (limit, 39, 0, Some(PackRefusal::VersionLimit(limit))),
+        (limit - 1, 39, 0, Some(PackRefusal::BadSummary(39))),
+        (7, 38, 7, Some(PackRefusal::BadSummary(7))),
+        (7, 256, 7, Some(PackRefusal::BadSummary(256))),
+        (7, 38, 6, None),
     ] {
-        let mut disk = blank(alloc, &[])?;
-        lay(&mut disk, 0, 0, &head(version, &[]))?;
-        lay(&mut disk, 0, 7, &head(version, &[]))?;
-        let mut hot = Block::zeros();
-        put(&mut hot, 3584, nat);
-        lay(&mut disk, 0, 1, &hot)?;
-        let mut cold = Block::zeros();
-        put(&mut cold, 3584, sit);
-        lay(&mut disk, 0, 3, &cold)?;
-        match chosen(alloc, &mut disk) {
-            Ok(_) => assert!(rt; false, "version {version}"),
-            Err(refusal) => assert_eq!(rt; refusal, wanted),
-        }
+        assert_eq!(rt;
+            refusal(alloc, &[], version, nat, sit)?,
+            wanted,
+            "version {version}"
+        );
+    }
+    // Each of the reads fails.
+    for call in 5..14u64 {
+        assert_eq!(rt;
+            refusal(alloc, &[call], 7, 0, 0)?,
+            Some(PackRefusal::DiskFault),
+            "call {call}"
+        );
     }
     Ok(())
 }
@@ -228,7 +228,6 @@ fn summaries(nids: &[(usize, u32)]) -> Block {
 #[test]
 fn a_compact_pack_with_orphans_is_read(rt: HostRuntime) -> Result<(), Fail> {
     let alloc = rt.alloc();
-    let mut disk = blank(alloc, &[])?;
     let head = head(
         7,
         &[
@@ -239,19 +238,23 @@ fn a_compact_pack_with_orphans_is_read(rt: HostRuntime) -> Result<(), Fail> {
             (176, 0x0001_0000),
         ],
     );
-    lay(&mut disk, 1, 0, &head)?;
-    lay(&mut disk, 1, 7, &head)?;
-    let mut orphans = Block::zeros();
-    put(&mut orphans, 0, 7);
-    put(&mut orphans, 4, 9);
+    let mut orphans = summaries(&[(0, 7), (4, 9)]);
     orphans.put(4088, &[2]);
-    lay(&mut disk, 1, 1, &orphans)?;
     let mut first = summaries(&[(1014, 0x11), (1021, 0x12), (1028, 0x21), (1035, 0x31)]);
     first.put(0, &[1, 0, 5, 0, 0, 0, 1, 6, 0, 0, 0, 0x34, 0x12]);
-    lay(&mut disk, 1, 2, &first)?;
-    lay(&mut disk, 1, 3, &summaries(&[(0, 0x32)]))?;
-    lay(&mut disk, 1, 4, &summaries(&[(3577, 0x41)]))?;
-    lay(&mut disk, 1, 6, &summaries(&[(0, 0x61)]))?;
+    let mut disk = disk(
+        alloc,
+        &[],
+        &[
+            (1024, head),
+            (1025, orphans),
+            (1026, first),
+            (1027, summaries(&[(0, 0x32)])),
+            (1028, summaries(&[(3577, 0x41)])),
+            (1030, summaries(&[(0, 0x61)])),
+            (1031, head),
+        ],
+    )?;
     let kept = chosen(alloc, &mut disk)?;
     assert_eq!(rt; kept.orphans(), [7, 9].as_slice());
     assert_eq!(rt; kept.nat_journal().len(), 1);
@@ -288,11 +291,12 @@ fn a_compact_pack_with_orphans_is_read(rt: HostRuntime) -> Result<(), Fail> {
 #[test]
 fn a_pack_without_node_summaries_is_read(rt: HostRuntime) -> Result<(), Fail> {
     let alloc = rt.alloc();
-    let mut disk = blank(alloc, &[])?;
     let head = head(7, &[(132, 0), (136, 5)]);
-    lay(&mut disk, 0, 0, &head)?;
-    lay(&mut disk, 0, 4, &head)?;
-    lay(&mut disk, 0, 1, &summaries(&[(3577, 0x11)]))?;
+    let mut disk = disk(
+        alloc,
+        &[],
+        &[(512, head), (513, summaries(&[(3577, 0x11)])), (516, head)],
+    )?;
     let kept = chosen(alloc, &mut disk)?;
     assert_eq!(rt; kept.entry(0, 511).map(|s| s.nid), Some(0x11));
     assert_eq!(rt; kept.entry(3, 0).map(|s| s.nid), None);
@@ -322,14 +326,15 @@ fn has_bounded_journals(p: &NewPack) -> bool
     write_head(p, &mut block);
     let size = p.head.bytes();
     prove!(size.len() == 4096);
-    journals(&Checkpoint::of(&block), &p.sums[..3]).is_ok()
+    match journals(&Checkpoint::of(&block), &p.sums[..3]) {
+        Ok(_) => true,
+        Err(_) => false,
+    }
 }
 
-// Writes block `k` of pack 1.
-fn write_block(disk: &mut MemoryDisk, p: &NewPack, k: usize) -> Result<(), Fail>
-    requires disk { (memory_of disk.old).blocks ≡ 16384 }
-    requires normal { IsNormal p.now.head }
-    ensures { (memory_of disk.new).blocks ≡ 16384 }
+// Block `k` of the pack.
+fn block_of(p: &NewPack, k: usize) -> Block
+    requires { IsNormal p.now.head }
 {
     let mut block = Block::zeros();
     if k == 0 {
@@ -337,7 +342,7 @@ fn write_block(disk: &mut MemoryDisk, p: &NewPack, k: usize) -> Result<(), Fail>
     } else if k < 8 {
         write_body(p, k, &mut block);
     }
-    lay(disk, 1, k as u64, &block)
+    block
 }
 
 #[test]
@@ -363,15 +368,20 @@ fn a_written_pack_is_read_back(rt: HostRuntime) -> Result<(), Fail> {
     assert!(rt; is_written_valid(&p, &LAYOUT));
     assert!(rt; has_bounded_journals(&p));
     let kept = Chosen::of_pack(alloc, &LAYOUT, &p)?;
-    let mut disk = blank(alloc, &[])?;
-    write_block(&mut disk, &p, 0)?;
-    write_block(&mut disk, &p, 1)?;
-    write_block(&mut disk, &p, 2)?;
-    write_block(&mut disk, &p, 3)?;
-    write_block(&mut disk, &p, 4)?;
-    write_block(&mut disk, &p, 5)?;
-    write_block(&mut disk, &p, 6)?;
-    write_block(&mut disk, &p, 7)?;
+    let mut disk = disk(
+        alloc,
+        &[],
+        &[
+            (1024, block_of(&p, 0)),
+            (1025, block_of(&p, 1)),
+            (1026, block_of(&p, 2)),
+            (1027, block_of(&p, 3)),
+            (1028, block_of(&p, 4)),
+            (1029, block_of(&p, 5)),
+            (1030, block_of(&p, 6)),
+            (1031, block_of(&p, 7)),
+        ],
+    )?;
     let read = chosen(alloc, &mut disk)?;
     for c in [&kept, &read] {
         assert_eq!(rt; c.pack(), 1);
