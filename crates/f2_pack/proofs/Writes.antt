@@ -5,19 +5,20 @@ use Rattle.std.proofs.lemmas.Bool.{and_parts, leb-true, le-leb, lt-leb}
 use Rattle.f2_bytes.specs.Bytes.{Block, Image, IsBlock, block_at, number_at, with_number, has_bit}
 use Rattle.f2_bytes.specs.Checksum.{with_seal, crc, magic_number}
 use Rattle.f2_bytes.specs.declared.layout.Layout.{Layout}
-use Rattle.f2_bytes.specs.Checkpoint.{Pack, pack_at, pack_head, pack_total_block_count, pack_start_sum, ckpt_flags, checkpoint_ver, chosen_pack, is_pack_valid, is_compact, has_orphans, has_node_summaries, data_summary_blocks, node_summary_blocks, compact_blocks}
+use Rattle.f2_bytes.specs.Checkpoint.{Pack, pack_at, pack_head, pack_tail, pack_total_block_count, pack_start_sum, ckpt_flags, checkpoint_ver, chosen_pack, is_pack_valid, is_compact, has_orphans, has_node_summaries, data_summary_blocks, node_summary_blocks, compact_blocks}
 use Rattle.f2_bytes.specs.Journal.{data_summary_start, node_summary_start, nat_journal_area, sit_journal_area, journal_count, nat_room, sit_room, are_journals_bounded}
 use Rattle.f2_bytes.proofs.Numbers.{number_at-front, take-with_number, length-with_number}
 use Rattle.f2_pack.specs.declared.writing.NewPack.{NewPack}
 use Rattle.f2_pack.specs.Held.{blocks_of, chosen_of}
 use Rattle.f2_pack.specs.Laws.{HigherCounts, WrittenIsChosen, WrittenIsRead}
-use Rattle.f2_pack.specs.Written.{written, written_blocks, IsNormal}
+use Rattle.f2_pack.specs.Valid.{is_head_valid, is_tail_of}
+use Rattle.f2_pack.specs.Written.{written, IsNormal}
 use Rattle.f2_pack.specs.Choice.{choice_in, read_of, version_limit}
 use Rattle.f2_pack.specs.declared.choosing.PackRefusal.TheVariants.{VersionLimit}
 use Rattle.f2_pack.proofs.Kept.{reads_its_blocks, when_false}
 use Rattle.f2_pack.proofs.Making.{bounded_value}
 use Rattle.f2_pack.proofs.PackReads.{chosen_valid, nat_area-frame, sit_area-frame}
-use Rattle.f2_pack.proofs.ValidHeads.{head_facts, head_of_valid}
+use Rattle.f2_pack.proofs.ValidHeads.{head_facts, head_of_valid, pack_parts}
 
 -- a seal keeps the numbers that stand before its place
 number_at-with_seal : (b : Block) (i n : ℕ) → length b ≡ 4096 → i + n ≤ 164 → number_at (with_seal b) i n ≡ number_at b i n
@@ -82,6 +83,16 @@ last_three h (a ∷ b ∷ c ∷ d ∷ []) six = absurd (omega (arith, six))
 last_three h (a ∷ b ∷ c ∷ d ∷ e ∷ []) six = absurd (omega (arith, six))
 last_three h (a ∷ b ∷ c ∷ d ∷ e ∷ f ∷ g ∷ rest) six = absurd (omega (arith, six))
 
+eighth : (h : Block) (sums : List Block) → length sums ≡ 6 → block_at (h ∷ [] ++ sums ++ h ∷ []) 7 ≡ h
+eighth h (a ∷ b ∷ c ∷ d ∷ e ∷ f ∷ []) six = refl
+eighth h [] six = absurd (omega (arith, six))
+eighth h (a ∷ []) six = absurd (omega (arith, six))
+eighth h (a ∷ b ∷ []) six = absurd (omega (arith, six))
+eighth h (a ∷ b ∷ c ∷ []) six = absurd (omega (arith, six))
+eighth h (a ∷ b ∷ c ∷ d ∷ []) six = absurd (omega (arith, six))
+eighth h (a ∷ b ∷ c ∷ d ∷ e ∷ []) six = absurd (omega (arith, six))
+eighth h (a ∷ b ∷ c ∷ d ∷ e ∷ f ∷ g ∷ rest) six = absurd (omega (arith, six))
+
 module _ (p : NewPack) (head : Block) (is_head : head ≡ with_seal p.head) (size : length p.head ≡ 4096) (six : length p.sums ≡ 6) (normal : IsNormal p.head) where
   facts : NormalFacts (with_seal p.head)
   facts = normal_facts (with_seal p.head) (normal_sealed p.head size normal)
@@ -101,11 +112,24 @@ module _ (p : NewPack) (head : Block) (is_head : head ≡ with_seal p.head) (siz
   pub no_orphans : has_orphans head ≡ false
   no_orphans = ap has_orphans is_head ∙ facts.orphans
 
+  -- its tail is its head again
+  pub written_valid : (l : Layout) → is_pack_valid l (written p) ≡ is_head_valid l head && is_tail_of head head
+  written_valid l =
+      let total : pack_total_block_count (with_seal p.head) ≡ 8 = (normal_sealed p.head size normal).total in
+      let tail : pack_tail (written p) ≡ with_seal p.head = ap (λ n. written p (n - 1)) total ∙ eighth (with_seal p.head) p.sums six in
+      pack_parts l (written p) ∙ λ i. is_head_valid l (sym is_head i) && is_tail_of (sym is_head i) ((tail ∙ sym is_head) i)
+
 -- the counts of the journals of a bounded pack
 pub counts_bounded : (pack : Pack) → are_journals_bounded pack ≡ true → (journal_count (nat_journal_area pack) ≤ nat_room) × (journal_count (sit_journal_area pack) ≤ sit_room)
 counts_bounded pack bounded =
     let both = and_parts _ _ bounded in
     (leb-true (journal_count (nat_journal_area pack)) nat_room both.0, leb-true (journal_count (sit_journal_area pack)) sit_room both.1)
+
+pub bounded_counts : (pack : Pack) → journal_count (nat_journal_area pack) ≤ nat_room → journal_count (sit_journal_area pack) ≤ sit_room → are_journals_bounded pack ≡ true
+bounded_counts pack few less =
+    let first = le-leb (journal_count (nat_journal_area pack)) nat_room few in
+    let second = le-leb (journal_count (sit_journal_area pack)) sit_room less in
+    λ i. first i && second i
 
 pub written_is_read : WrittenIsRead
 written_is_read l image p size six normal chosen same =

@@ -127,14 +127,7 @@ fn read_pack<D: Disk>(
     let records = journals(head, &data_summaries)?;
     let node_summaries = read_blocks(alloc, d, start, head.node_start(), head.node_blocks())?;
     let orphans = read_orphans(alloc, d, start, head)?;
-    Ok(Chosen::of(
-        head,
-        pack,
-        records,
-        orphans,
-        data_summaries,
-        node_summaries,
-    ))
+    Ok(Chosen::of(head, pack, records, orphans, data_summaries, node_summaries))
 }
 
 /// Chooses the pack that counts, the valid one of the higher version and pack 0 at a tie, and reads what is kept of

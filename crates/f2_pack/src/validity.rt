@@ -45,7 +45,7 @@ fn has_room_for_summaries(head: &Checkpoint) -> bool
 
 // All that a head says by itself is valid.
 #[tactic(auto, unfolding(crate::specs::Valid::is_head_valid))]
-fn is_head_valid(head: &Checkpoint, l: &Layout) -> bool
+pub(crate) fn is_head_valid(head: &Checkpoint, l: &Layout) -> bool
     ensures { result ≡ head_is_valid l.now head.now }
 {
     sealed(head.block().bytes())
@@ -56,7 +56,7 @@ fn is_head_valid(head: &Checkpoint, l: &Layout) -> bool
 }
 
 // The block is the tail of a pack with this head.
-fn is_tail_of(head: &Checkpoint, tail: &Block) -> bool
+pub(crate) fn is_tail_of(head: &Checkpoint, tail: &Block) -> bool
     ensures { result ≡ tail_fits head.now tail.now }
 {
     sealed(tail.bytes()) && Checkpoint::of(tail).field(0) == head.field(0)
