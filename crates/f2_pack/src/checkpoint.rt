@@ -1,7 +1,10 @@
 // The head of a pack.
-ghost use Rattle.std.specs.Prelude.{◌≡◌, ◌≤◌, ◌<◌, ◌+◌, ◌^◌, length, true};
+ghost use Rattle.std.specs.Prelude.{◌≡◌, ◌==◌, ◌≤◌, ◌<◌, ◌+◌, ◌^◌, length, true};
+ghost use Rattle.std.specs.Int.RustNames.{bit_and};
 ghost use Rattle.f2_bytes.specs.Bytes.{number_at};
 
+use crate::flags::CheckpointFlags;
+use bitflags::Flags;
 use f2_bytes::{CHECKPOINT, Field, FieldTable};
 use f2_disk::Block;
 use std::marker::Model;
@@ -49,8 +52,8 @@ pub(crate) fn number(b: &Block, at: usize, width: usize) -> u64
 impl Checkpoint {
     ghost use Rattle.f2_bytes.specs.Bytes.{IsBlock};
     ghost use Rattle.f2_bytes.specs.Fields.{row_at};
-    ghost use Rattle.f2_bytes.specs.Checkpoint.{checkpoint_rows, checkpoint_row, log, compact_count, compact_blocks, data_summary_blocks, node_summary_blocks, has_room_for_summaries};
-    ghost use Rattle.f2_bytes.specs.Checkpoint.{has_orphans as has_orphan_blocks, is_compact as has_compact_form, has_node_summaries as has_summaries_of_nodes};
+    ghost use Rattle.f2_bytes.specs.Checkpoint.{checkpoint_rows, checkpoint_row, ckpt_flags, log, compact_count, compact_blocks, data_summary_blocks, node_summary_blocks, has_room_for_summaries};
+    ghost use Rattle.f2_bytes.specs.Checkpoint.{has_orphans as has_orphan_blocks, is_compact as has_compact_form, has_node_summaries as has_summaries_of_nodes, has_large_nat_bitmap as has_large_bitmap};
     ghost use Rattle.f2_bytes.specs.Journal.{data_summary_start, node_summary_start};
 
     // The head in this block.
@@ -113,26 +116,39 @@ impl Checkpoint {
         self.field(48 + t)
     }
 
+    // Whether the head has this flag.
+    fn has(&self, flag: CheckpointFlags) -> bool
+        ensures { result ≡ (bit_and (ckpt_flags self.now) flag.0 == flag.0) }
+    {
+        CheckpointFlags::from_bits_retain(self.field(38) as u32).contains(flag)
+    }
+
     // Whether the pack has orphan blocks.
     pub(crate) fn has_orphans(&self) -> bool
         ensures { result ≡ has_orphan_blocks self.now }
     {
-        self.field(38) / 2 % 2 == 1
+        self.has(CheckpointFlags::ORPHANS)
     }
 
     // Whether the summaries of the data logs stand in the compact form.
     pub(crate) fn is_compact(&self) -> bool
         ensures { result ≡ has_compact_form self.now }
     {
-        self.field(38) / 4 % 2 == 1
+        self.has(CheckpointFlags::COMPACT_SUMMARIES)
     }
 
     // Whether the pack has summaries of the node logs.
     pub(crate) fn has_node_summaries(&self) -> bool
         ensures { result ≡ has_summaries_of_nodes self.now }
     {
-        let flags = self.field(38);
-        flags % 2 == 1 || flags / 32 % 2 == 1
+        self.has(CheckpointFlags::UMOUNT) || self.has(CheckpointFlags::FASTBOOT)
+    }
+
+    // Whether the bitmap of the node address table has a block of its own, which the tools don't read.
+    pub(crate) fn has_large_nat_bitmap(&self) -> bool
+        ensures { result ≡ has_large_bitmap self.now }
+    {
+        self.has(CheckpointFlags::LARGE_NAT_BITMAP)
     }
 
     // How many entries of data log `t` the compact form holds.

@@ -7,6 +7,7 @@
 mod checkpoint;
 mod choosing;
 mod chosen;
+mod flags;
 mod laws;
 mod reading;
 mod validity;

@@ -49,7 +49,7 @@ pub(crate) fn is_head_valid(head: &Checkpoint, l: &Layout) -> bool
     ensures { result ≡ head_is_valid l.now head.now }
 {
     sealed(head.block().bytes())
-        && head.field(38) / 1024 % 2 != 1
+        && !head.has_large_nat_bitmap()
         && head.field(39) <= 512
         && agrees_with_layout(head, l)
         && has_room_for_summaries(head)

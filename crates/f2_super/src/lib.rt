@@ -3,6 +3,7 @@
 #![tactic(auto)]
 
 mod copies;
+mod features;
 mod loading;
 
 pub use copies::{Super, read_copy, write_copy};

@@ -1,19 +1,18 @@
 // The superblock of a disk.
 ghost use Rattle.std.specs.Prelude.{◌≡◌, ◌≤◌, ◌<◌, ◌^◌, ℕ, Some, None, true, false, Ok, IfSome, IfOk, OnOk, OnErr, IsErrOf};
 ghost use Rattle.f2_bytes.specs.Bytes.{Image, block_at};
-ghost use Rattle.f2_bytes.specs.Superblock.{copy_passes, block_count, has_twins};
+ghost use Rattle.f2_bytes.specs.Superblock.{copy_passes, block_count, has_twins, unsupported_features as unsupported_bits};
 ghost use Rattle.f2_disk.specs.Disk.{State, Reads, Goes, Rose};
 ghost use Rattle.f2_super.specs.Copy.{copy_in};
 ghost use Rattle.f2_super.specs.Choice.{found_of};
 ghost use Rattle.f2_super.specs.Load.{loaded, refusal_of, OrFault, repaired, KeepsSuper, IsSound};
 ghost use Rattle.f2_super.specs.declared.loading.SuperRefusal.TheVariants.{DiskFault as Faulted};
 
+use crate::features::Features;
 use crate::{Super, read_copy, write_copy};
+use bitflags::Flags;
 use f2_disk::{Block, Disk, DiskFault};
 use thiserror::Error;
-
-/// The feature bits that the tools don't read: all but lost_found and sb_checksum.
-const UNSUPPORTED: u32 = 0xFFFF_F5FF;
 
 /// The most blocks that an image may have: 1 TiB.
 const MOST_BLOCKS: u64 = 1 << 28;
@@ -74,8 +73,16 @@ fn copy_at<D: Disk>(d: &mut D, size: u64, at: u64) -> Result<Option<Super>, Disk
     Ok(read_copy(&b))
 }
 
+// The feature bits of a copy that the tools don't read.
+fn unsupported_features(sup: &Super) -> u32
+    ensures { result ≡ unsupported_bits sup.now }
+{
+    let features = Features::from_bits_retain(sup.field(31) as u32);
+    features.difference(Features::all()).bits()
+}
+
 // What a copy is refused for on a disk of `size` blocks.
-#[tactic(auto, unfolding(crate::specs::Load::refusal_of, f2_bytes::specs::Superblock::unsupported_features))]
+#[tactic(auto, unfolding(crate::specs::Load::refusal_of))]
 fn refusal(size: u64, sup: &Super) -> Option<SuperRefusal>
     ensures value { result ≡ refusal_of size sup.now }
     ensures few { result ≡ None → block_count sup.now ≤ 2 ^ 28 }
@@ -83,7 +90,7 @@ fn refusal(size: u64, sup: &Super) -> Option<SuperRefusal>
     ensures room { result ≡ None → copy_passes sup.now ≡ true → 2 ≤ size }
     ensures no_fault { result ≡ Some SuperRefusal.DiskFault → ⊥ }
 {
-    let unsupported = sup.field(31) as u32 & UNSUPPORTED;
+    let unsupported = unsupported_features(sup);
     let blocks = sup.field(10);
     if unsupported != 0 {
         Some(SuperRefusal::Unsupported(unsupported))
