@@ -9,6 +9,15 @@ use f2_disk::Block;
 use itoa::Buffer;
 use std::alloc::AllocError;
 
+// Does this for each field of a table, in its order.
+macro_rules! each_field {
+    ($count:ident, $k:ident => $each:expr) => {
+        for $k in 0..$count {
+            $each;
+        }
+    };
+}
+
 // Appends the line of a field.
 fn push_line(text: &mut Vec<u8>, name: &str, number: u64) -> Result<(), AllocError>
     ensures { OnOk result (text.new.items ≡ text.old.items ++ field_line name.now number) }
@@ -32,8 +41,6 @@ pub fn push_fields<const N: usize>(
     ensures { OnOk result (text.new.items ≡ text.old.items ++ field_lines (map (λ name. name.now) names.now) table.now.rows block.now) }
 {
     let bytes = block.bytes();
-    for k in 0..N {
-        push_line(text, names[k], table.get(bytes, k))?;
-    }
+    each_field!(N, k => push_line(text, names[k], table.get(bytes, k))?);
     Ok(())
 }

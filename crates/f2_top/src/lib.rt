@@ -14,4 +14,6 @@ pub use answer::{Answer, Refusal};
 pub use top::run;
 
 #[cfg(test)]
+mod dump_tests;
+#[cfg(test)]
 mod tests;

@@ -50,7 +50,7 @@ fn put(b: &mut Block, offset: usize, number: u32) {
 }
 
 // A block with a good copy, and other bytes before it.
-fn good() -> Block {
+pub(crate) fn good() -> Block {
     let mut b = Block::zeros();
     b.put(0, b"bytes before the copy");
     for (row, number) in ROWS {
@@ -61,7 +61,7 @@ fn good() -> Block {
     b
 }
 
-fn words(alloc: Global, texts: &[&str]) -> Result<Vec<String>, Fail> {
+pub(crate) fn words(alloc: Global, texts: &[&str]) -> Result<Vec<String>, Fail> {
     let mut words = Vec::new(alloc);
     for text in texts {
         words.push(String::from_str(alloc, text)?)?;

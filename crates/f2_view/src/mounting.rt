@@ -5,8 +5,8 @@ ghost use Rattle.f2_disk.specs.Disk.{Reads, Goes, Rose};
 ghost use Rattle.f2_view.specs.Mounted.{IsMounted};
 ghost use Rattle.f2_view.specs.Mounting.{mounted, super_refusal, pack_refusal, OrFails};
 
-use f2_disk::Disk;
 use crate::Mount;
+use f2_disk::Disk;
 use f2_pack::{PackRefusal, choose};
 use f2_super::{SuperRefusal, load};
 use std::alloc::Global;
