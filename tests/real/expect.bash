@@ -17,8 +17,8 @@ fail() {
     failures=$((failures + 1))
 }
 
-# expect NAME STATUS TEXT COMMAND..: the command has to end with this status, print this one line (none where
-# TEXT is empty), and write nothing to standard error.
+# expect NAME STATUS TEXT COMMAND..: the command has to end with this status, print this line or these lines (none
+# where TEXT is empty), and write nothing to standard error.
 expect() {
     local name=$1 status=$2 text=$3 got=0
     shift 3
@@ -28,7 +28,7 @@ expect() {
         fail "$name: status $got, and not $status"
     fi
     if ! cmp -s "$tmp/output" "$tmp/wanted"; then
-        fail "$name: printed '$(head -c 200 "$tmp/output" | tr -d '\0')', and not '$text'"
+        fail "$name: printed '$(head -c 200 "$tmp/output" | tr -d '\0')', and not '${text:0:200}'"
     fi
     if [[ -s $tmp/errors ]]; then
         fail "$name: wrote '$(head -c 200 "$tmp/errors" | tr -d '\0')' to standard error"
