@@ -138,7 +138,9 @@ fn image(
     first: u64,
     second: u64,
     records: u8,
-) -> Result<MemoryDisk, Fail> {
+) -> Result<MemoryDisk, Fail>
+    ensures { IfOk result (λ d. (memory_of d).blocks ≡ 16384) }
+{
     let mut disk = MemoryDisk::new(alloc, 16384, Vec::from_slice(alloc, fails)?);
     let mut journal = Block::zeros();
     journal.put(3584, &[records]);

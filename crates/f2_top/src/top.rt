@@ -47,47 +47,6 @@ fn answer<D: Disk, O: Sink>(alloc: Global, job: Option<Job>, disk: &mut D, out: 
     }
 }
 
-// Does the job, and puts the text of its answer.
-fn do_job<D: Disk, O: Sink>(alloc: Global, job: Option<Job>, disk: &mut D, out: &mut O) -> Answer
-    // Which answer it is.
-    ensures answer { (result ≡ Answer.SinkFault) ⊎ Allowed job (D.state disk.old) (D.state disk.new) result }
-    ensures sink_fault { result ≡ Answer.SinkFault → Rose (O.faults out.old) (O.faults out.new) }
-    ensures memory { takes_memory job ≡ false → result ≢ Answer.NoMemory }
-
-    // What it prints. A dump's lines are those of an image that the disk tells.
-    ensures text { (had : List ℕ) → O.told out.old ≡ Some had → (lines : List ℕ) → AreLines job (D.state disk.old) lines
-        → Printed job lines (D.state disk.old) (D.state disk.new) result had (O.told out.new) }
-
-    // What it leaves on a disk that tells its blocks, unless that had a fault.
-    ensures image { (image : Image) → (D.state disk.old).told ≡ Some image → result ≢ Answer.DiskFault
-        → (result ≡ Answer.SinkFault → ¬ (Rose (D.state disk.old).faults (D.state disk.new).faults))
-        → (D.state disk.new).told ≡ Some (image_of job (D.state disk.old).size image) }
-    ensures twins { IsSuccess result → job ≡ Some Super → (image : Image) → (D.state disk.new).told ≡ Some image → has_twins image ≡ true }
-
-    // With these answers, and unless it repairs the superblock copies, it writes nothing.
-    ensures idle { IsIdle result → Reads (D.state disk.old) (D.state disk.new) }
-    ensures reads { job ≢ Some Super → Reads (D.state disk.old) (D.state disk.new) }
-    ensures durable { IsSuccess result → (D.state disk.old).pending ≡ false → (D.state disk.new).pending ≡ false }
-
-    // Unless the disk or the sink has a fault, it answers by the image: fsck --super on an image that can be loaded Done
-    // exactly where both superblock copies pass and agree, else Corrected, and a dump of an image that can be mounted
-    // Done, or NoMemory.
-    ensures complete { (image : Image) → (D.state disk.old).told ≡ Some image
-        → ¬ (Rose (D.state disk.old).faults (D.state disk.new).faults) → ¬ (Rose (O.faults out.old) (O.faults out.new))
-        → IsAnswered job (D.state disk.old).size image result }
-
-    // A crash at any moment of the run leaves an image with the same superblock.
-    ensures any_moment { KeepsSuper (D.state disk.old) (D.state disk.new) }
-    ensures goes { Goes (D.state disk.old) (D.state disk.new) }
-    ensures sink_goes { O.faults out.old ≤ O.faults out.new }
-{
-    let answer = answer(alloc, job, disk, out);
-    match put_last(out, job, &answer) {
-        Ok(()) => answer,
-        Err(_) => Answer::SinkFault,
-    }
-}
-
 /// Does the job that the words name, and puts the text of its answer.
 ///
 /// The words are those of the command line after the image: the tool and its options. `_moment` is the second of the
@@ -135,5 +94,9 @@ pub fn run<D: Disk, O: Sink>(
     ensures sink_goes { O.faults out.old ≤ O.faults out.new }
 {
     let job = job(words);
-    do_job(alloc, job, disk, out)
+    let answer = answer(alloc, job, disk, out);
+    match put_last(out, job, &answer) {
+        Ok(()) => answer,
+        Err(_) => Answer::SinkFault,
+    }
 }
