@@ -1,5 +1,5 @@
 // The superblock copies.
-ghost use Rattle.std.specs.Prelude.{◌≡◌, ◌≤◌, ◌<◌, ◌+◌, ◌^◌, IsTrue, length, drop};
+ghost use Rattle.std.specs.Prelude.{◌≡◌, ◌<◌, ◌^◌, IsTrue, length};
 ghost use Rattle.f2_bytes.specs.Fields.{row_at, lie_apart};
 ghost use Rattle.f2_bytes.specs.Superblock.{superblock_rows, copy_row, has_known_form, has_known_counts, has_joined_areas, has_enough_room, has_right_checksum, copy_passes, copy_of};
 ghost use Rattle.f2_bytes.specs.Superblock.{passes as copy_in_passes};
@@ -125,15 +125,6 @@ fn copy_passes(c: &[u8]) -> bool
         && has_right_checksum(c)
 }
 
-// The bytes from `start` on.
-fn from_byte(b: &[u8], start: usize) -> &[u8]
-    requires { start ≤ length b.now }
-    ensures bytes { result.now ≡ drop start b.now }
-    ensures length { length result.now + start ≡ length b.now }
-{
-    &b[start..]
-}
-
 /// Whether the superblock copy in a block of 4096 bytes passes: it has the magic number, the geometry that this
 /// project reads, areas that follow each other inside the image, and, with the feature sb_checksum, the right
 /// checksum. docs/FORMAT.md has the conditions one by one.
@@ -142,5 +133,6 @@ pub fn passes(b: &[u8]) -> bool
     requires { length b.now ≡ 4096 }
     ensures { result ≡ copy_in_passes b.now }
 {
-    copy_passes(from_byte(b, 1024))
+    let (_, copy) = b.split_at(1024);
+    copy_passes(copy)
 }

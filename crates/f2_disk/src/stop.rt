@@ -36,18 +36,10 @@ pub struct StopDisk<D: Disk + Drop> {
 fn half_written(new: &Block, old: &Block) -> Block
     ensures { result ≡ take 2048 new.now ++ drop 2048 old.now }
 {
+    let (first, _) = new.bytes().split_at(2048);
     let mut half = *old;
-    half.put(0, front(new.bytes(), 2048));
+    half.put(0, first);
     half
-}
-
-// The first `end` bytes.
-fn front(bytes: &[u8], end: usize) -> &[u8]
-    requires { end ≤ length bytes.now }
-    ensures bytes { result.now ≡ take end bytes.now }
-    ensures length { length result.now ≡ end }
-{
-    &bytes[..end]
 }
 
 // Whether no reader takes the block for whole.

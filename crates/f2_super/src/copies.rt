@@ -1,5 +1,5 @@
 // A superblock copy by itself.
-ghost use Rattle.std.specs.Prelude.{◌≡◌, ◌≤◌, ◌+◌, ◌++◌, take, drop, length, IfSome, true};
+ghost use Rattle.std.specs.Prelude.{◌≡◌, ◌++◌, take, IfSome, true};
 ghost use Rattle.f2_bytes.specs.Bytes.{IsBlock};
 ghost use Rattle.f2_bytes.specs.Superblock.{copy_passes, is_compared_row};
 ghost use Rattle.f2_super.specs.Copy.{copy_in};
@@ -109,15 +109,6 @@ impl Super {
     }
 }
 
-// The bytes from `start` on.
-fn from_byte(b: &[u8], start: usize) -> &[u8]
-    requires { start ≤ length b.now }
-    ensures bytes { result.now ≡ drop start b.now }
-    ensures length { length result.now + start ≡ length b.now }
-{
-    &b[start..]
-}
-
 /// The copy in a block, where it passes.
 #[tactic(auto, unfolding(f2_bytes::specs::Superblock::copy_of))]
 pub fn read_copy(b: &Block) -> Option<Super>
@@ -126,7 +117,8 @@ pub fn read_copy(b: &Block) -> Option<Super>
 {
     let bytes = b.bytes();
     if passes(bytes) {
-        Some(Super::of(from_byte(bytes, 1024)))
+        let (_, copy) = bytes.split_at(1024);
+        Some(Super::of(copy))
     } else {
         None
     }

@@ -1,5 +1,5 @@
 // Runs over disks in memory, and values from outside.
-ghost use Rattle.std.specs.Prelude.{◌≡◌, ◌≤◌, length, IfOk};
+ghost use Rattle.std.specs.Prelude.{◌≡◌, ◌≤◌, IfOk};
 ghost use Rattle.f2_disk.specs.Disk.{Goes};
 ghost use Rattle.f2_disk.specs.Fakes.{memory_of};
 
@@ -91,14 +91,8 @@ fn repair<D: Disk>(alloc: Global, disk: &mut D) -> Result<Answer, Fail>
 
 // The bytes of the copy in a block.
 fn copy_in(b: &Block) -> &[u8] {
-    let bytes = b.bytes();
-    from_byte(bytes, 1024)
-}
-
-fn from_byte(bytes: &[u8], start: usize) -> &[u8]
-    requires { start ≤ length bytes.now }
-{
-    &bytes[start..]
+    let (_, copy) = b.bytes().split_at(1024);
+    copy
 }
 
 #[test]
