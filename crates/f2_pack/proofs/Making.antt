@@ -1,6 +1,6 @@
 -- What was read of a pack.
-use Rattle.std.proofs.Common.{◌≡◌, ℕ, ◌+◌, ◌-◌, ◌*◌, ◌/◌, ◌<◌, ◌≤◌, Bool, true, false, cond, nat_lt, List, [], ◌∷◌, length, map, Result, Ok, Err, refl, sym, ap, ◌∙◌, arith}
-use Rattle.std.specs.Prelude.{flat_map, if◌then◌else◌}
+use Rattle.std.proofs.Common.{◌≡◌, ℕ, ◌+◌, ◌-◌, ◌*◌, ◌<◌, ◌≤◌, Bool, true, false, cond, nat_lt, List, [], length, Result, Ok, Err, refl, sym, ap, ◌∙◌, arith}
+use Rattle.std.specs.Prelude.{flat_map}
 use Rattle.std.specs.List.{range_with_len}
 use Rattle.std.proofs.lemmas.Bool.{ltb-false, le-ltb}
 use Rattle.std.proofs.lemmas.List.FromFn.{length-map-range_with_len}
@@ -9,7 +9,7 @@ use Rattle.f2_bytes.specs.declared.layout.Layout.{Layout}
 use Rattle.f2_bytes.specs.Checkpoint.{Pack, pack_head, has_orphans, pack_start_sum, orphans, orphans_in, data_summary_blocks, node_summary_blocks}
 use Rattle.f2_bytes.specs.Journal.{NatRecord, SitRecord, nat_record_at, sit_record_at, nat_records, sit_records, journal_count, nat_journal_area, sit_journal_area, nat_room, sit_room, data_summary_start, node_summary_start}
 use Rattle.f2_bytes.specs.Superblock.{IsInOrder}
-use Rattle.f2_pack.specs.Held.{Held, IsHeld, blocks_of, chosen_of, nat_area_in, sit_area_in}
+use Rattle.f2_pack.specs.Held.{Held, blocks_of, chosen_of, nat_area_in, sit_area_in}
 use Rattle.f2_pack.specs.Valid.{is_head_valid}
 use Rattle.f2_pack.specs.Choice.{IsChosen, OrFails, OnlyFails, where_bounded, journals_in, read_of}
 use Rattle.f2_pack.specs.declared.choosing.PackRefusal.{PackRefusal}
