@@ -5,9 +5,9 @@ use Rattle.f2_bytes.specs.declared.layout.Layout.{Layout}
 use Rattle.f2_bytes.specs.Checkpoint.{Pack, pack_at, pack_head, checkpoint_ver, is_pack_valid, chosen_pack}
 use Rattle.f2_pack.specs.Held.{Held}
 use Rattle.f2_pack.specs.Valid.{head_in}
-use Rattle.f2_pack.specs.Choice.{choice, choice_in, choice_of, read_of, higher_of, below_limit, version_limit}
+use Rattle.f2_pack.specs.Choice.{choice, choice_in, read_of, higher_of, below_limit, version_limit}
 use Rattle.f2_pack.specs.declared.choosing.PackRefusal.{PackRefusal}
-use Rattle.f2_pack.specs.declared.choosing.PackRefusal.TheVariants.{NoPack, VersionLimit}
+use Rattle.f2_pack.specs.declared.choosing.PackRefusal.TheVariants.{VersionLimit}
 
 -- the head of the pack that counts, with its number
 abbrev found_in : (ℕ → Pack) → Option ℕ → Option (Block × ℕ)

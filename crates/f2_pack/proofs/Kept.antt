@@ -1,21 +1,17 @@
 -- What is kept of a pack, and what it says of the pack.
-use Rattle.std.proofs.Common.{◌≡◌, ℕ, zero, suc, ◌+◌, ◌-◌, ◌*◌, ◌/◌, ◌<◌, ◌≤◌, Bool, true, false, cond, nat_le, nat_lt, not, ◌&&◌, List, [], ◌∷◌, ◌++◌, length, map, get_or, Some, None, Ok, Err, refl, sym, ap, ◌∙◌, arith}
-use Rattle.std.specs.Prelude.{◌==◌, if◌then◌else◌, sum, sum_by, take}
+use Rattle.std.proofs.Common.{◌≡◌, ℕ, zero, suc, ◌+◌, ◌-◌, ◌<◌, ◌≤◌, Bool, true, false, cond, nat_le, nat_lt, List, [], ◌∷◌, ◌++◌, map, get_or, Some, None, refl, sym, ap, ◌∙◌, arith}
+use Rattle.std.specs.Prelude.{if◌then◌else◌, sum, sum_by, take}
 use Rattle.std.specs.List.{range_with_len}
 use Rattle.std.proofs.lemmas.Bool.{ltb-true, ltb-false, lt-ltb}
-use Rattle.std.proofs.lemmas.List.FromFn.{length-map-range_with_len, get_or-map-range_with_len}
-use Rattle.f2_bytes.specs.Bytes.{Block, IsBlock, block_at, bytes_at}
-use Rattle.f2_bytes.specs.declared.layout.Layout.{Layout}
-use Rattle.f2_bytes.specs.Checkpoint.{Pack, pack_head, log, pack_start_sum, pack_total_block_count, is_compact, has_node_summaries, data_summary_blocks, node_summary_blocks, compact_count, compact_blocks, data_log_numbers, agrees_with_layout, has_room_for_summaries, is_pack_valid, orphans}
-use Rattle.f2_bytes.specs.Journal.{nat_records, sit_records, journal_count, nat_journal_area, sit_journal_area, nat_room, sit_room, data_summary_start, node_summary_start}
+use Rattle.std.proofs.lemmas.List.FromFn.{get_or-map-range_with_len}
+use Rattle.f2_bytes.specs.Bytes.{Block, block_at, bytes_at}
+use Rattle.f2_bytes.specs.Checkpoint.{Pack, pack_head, pack_start_sum, pack_total_block_count, is_compact, has_node_summaries, data_summary_blocks, node_summary_blocks, compact_count, compact_blocks, data_log_numbers, has_room_for_summaries}
+use Rattle.f2_bytes.specs.Journal.{nat_records, sit_records, nat_journal_area, sit_journal_area, data_summary_start, node_summary_start}
 use Rattle.f2_bytes.specs.Summary.{pack_summary, compact_place, summary_at, summary_entry}
-use Rattle.f2_bytes.specs.Superblock.{IsInOrder}
-use Rattle.f2_pack.specs.Held.{Held, IsHeld, IsLog, blocks_of, chosen_of, nat_area_in, sit_area_in, held_summary, data_summary_in}
-use Rattle.f2_pack.specs.Valid.{is_head_valid}
-use Rattle.f2_pack.specs.Choice.{IsChosen}
+use Rattle.f2_pack.specs.Held.{blocks_of, nat_area_in, sit_area_in, data_summary_in}
 use Rattle.f2_pack.specs.Laws.{KeepsSummaries, ReadsItsBlocks}
 use Rattle.f2_pack.proofs.PackReads.{room, cond_same, compact_low, taken_low, sum_low, count_low, head-frame, nat_area-frame, sit_area-frame, orphans-frame}
-use Rattle.f2_pack.proofs.ValidHeads.{HeadFacts, head_facts, head_of_valid}
+use Rattle.f2_pack.proofs.ValidHeads.{head_facts, head_of_valid}
 
 -- what is chosen where the test is true
 pub when_true : {A : Type 0} (b : Bool) (x y : A) → b ≡ true → cond b x y ≡ x

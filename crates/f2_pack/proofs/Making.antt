@@ -1,6 +1,6 @@
 -- What was read of a pack.
-use Rattle.std.proofs.Common.{◌≡◌, ℕ, ◌+◌, ◌-◌, ◌*◌, ◌/◌, ◌<◌, ◌≤◌, Bool, true, false, cond, nat_lt, List, [], ◌∷◌, length, map, Result, Ok, Err, refl, sym, ap, ◌∙◌, arith}
-use Rattle.std.specs.Prelude.{flat_map, if◌then◌else◌}
+use Rattle.std.proofs.Common.{◌≡◌, ℕ, ◌+◌, ◌-◌, ◌*◌, ◌<◌, ◌≤◌, Bool, true, false, cond, nat_lt, List, [], length, Result, Ok, Err, refl, sym, ap, ◌∙◌, arith}
+use Rattle.std.specs.Prelude.{flat_map}
 use Rattle.std.specs.List.{range_with_len}
 use Rattle.std.proofs.lemmas.Bool.{ltb-false, le-ltb}
 use Rattle.std.proofs.lemmas.List.FromFn.{length-map-range_with_len}
@@ -9,7 +9,7 @@ use Rattle.f2_bytes.specs.declared.layout.Layout.{Layout}
 use Rattle.f2_bytes.specs.Checkpoint.{Pack, pack_head, has_orphans, pack_start_sum, orphans, orphans_in, data_summary_blocks, node_summary_blocks}
 use Rattle.f2_bytes.specs.Journal.{NatRecord, SitRecord, nat_record_at, sit_record_at, nat_records, sit_records, journal_count, nat_journal_area, sit_journal_area, nat_room, sit_room, data_summary_start, node_summary_start}
 use Rattle.f2_bytes.specs.Superblock.{IsInOrder}
-use Rattle.f2_pack.specs.Held.{Held, IsHeld, blocks_of, chosen_of, nat_area_in, sit_area_in}
+use Rattle.f2_pack.specs.Held.{held_of, blocks_of, chosen_of, nat_area_in, sit_area_in}
 use Rattle.f2_pack.specs.Valid.{is_head_valid}
 use Rattle.f2_pack.specs.Choice.{IsChosen, OrFails, OnlyFails, where_bounded, journals_in, read_of}
 use Rattle.f2_pack.specs.declared.choosing.PackRefusal.{PackRefusal}
@@ -78,18 +78,6 @@ or_fails NoPack is only = absurd only
 or_fails (VersionLimit v) is only = absurd only
 or_fails (BadSummary n) is only = absurd only
 
--- what was read, with the journals in it
-abbrev pub read_held : Block → ℕ → List NatRecord × List SitRecord → List ℕ → List Block → List Block → Held
-read_held head number records orphan_inodes summaries nodes = record {
-  head = head;
-  number = number;
-  nat_journal = records.0;
-  sit_journal = records.1;
-  orphan_inodes = orphan_inodes;
-  data_summaries = summaries;
-  node_summaries = nodes;
-}
-
 -- what was read of the told blocks of a pack
 module _ (pack : Pack) (number : ℕ) (head : Block) (summaries : List Block) (is_head : pack_head pack ≡ head) (is_summaries : summaries ≡ blocks_of pack (data_summary_start head) (data_summary_blocks head)) where
   kept_summaries : summaries ≡ blocks_of pack (data_summary_start (pack_head pack)) (data_summary_blocks (pack_head pack))
@@ -114,7 +102,7 @@ module _ (pack : Pack) (number : ℕ) (head : Block) (summaries : List Block) (i
       → Ok records ≡ journals_in (nat_area_in head summaries) (sit_area_in head summaries)
       → nodes ≡ blocks_of pack (node_summary_start head) (node_summary_blocks head)
       → inodes ≡ cond (has_orphans head) (flat_map (λ j. orphans_in (pack j)) (range_with_len 1 (pack_start_sum head - 1))) []
-      → Ok (read_held head number records inodes summaries nodes) ≡ read_of pack number
+      → Ok (held_of head number records inodes summaries nodes) ≡ read_of pack number
   unfolding orphans
   read_exactly records inodes nodes is is_nodes is_inodes =
       let N = nat_journal_area pack in
@@ -124,8 +112,8 @@ module _ (pack : Pack) (number : ℕ) (head : Block) (summaries : List Block) (i
       is_nodes ∙ ap (λ (b : Block). blocks_of pack (node_summary_start b) (node_summary_blocks b)) (sym is_head) in
       let kept_inodes : inodes ≡ orphans pack =
       is_inodes ∙ ap (λ (b : Block). cond (has_orphans b) (flat_map (λ j. orphans_in (pack j)) (range_with_len 1 (pack_start_sum b - 1))) []) (sym is_head) in
-      let held : read_held head number records inodes summaries nodes ≡ chosen_of pack number =
-      λ i. read_held (sym is_head i) number (both.same i) (kept_inodes i) (kept_summaries i) (kept_nodes i) in
+      let held : held_of head number records inodes summaries nodes ≡ chosen_of pack number =
+      λ i. held_of (sym is_head i) number (both.same i) (kept_inodes i) (kept_summaries i) (kept_nodes i) in
       ap (λ h. Ok h) held ∙ sym both.answer
 
 -- what was read on any disk
@@ -133,7 +121,7 @@ pub read_soundly : (l : Layout) → IsInOrder l → (head : Block) → IsBlock h
     → (records : List NatRecord × List SitRecord) (inodes : List ℕ) (summaries nodes : List Block)
     → length summaries ≡ data_summary_blocks head → length nodes ≡ node_summary_blocks head
     → Ok records ≡ journals_in (nat_area_in head summaries) (sit_area_in head summaries)
-    → IsChosen l (read_held head number records inodes summaries nodes)
+    → IsChosen l (held_of head number records inodes summaries nodes)
 read_soundly l order head block valid number low records inodes summaries nodes count node_count is =
     let facts = head_facts l head valid in
     let N = nat_area_in head summaries in

@@ -1,14 +1,14 @@
 -- What is read of a pack stands in its blocks, as its head counts them.
-use Rattle.std.proofs.Common.{◌≡◌, ℕ, zero, suc, ◌+◌, ◌-◌, ◌*◌, ◌/◌, ◌%◌, ◌<◌, ◌≤◌, List, [], ◌∷◌, length, Bool, true, false, cond, nat_le, nat_lt, not, ◌||◌, ◌&&◌, Option, Some, None, refl, sym, ap, ◌∙◌, arith}
-use Rattle.std.specs.Prelude.{flat_map, sum, take, map, sum_by, get_or, ◌==◌, if◌then◌else◌}
+use Rattle.std.proofs.Common.{◌≡◌, ℕ, zero, suc, ◌+◌, ◌-◌, ◌*◌, ◌/◌, ◌%◌, ◌<◌, ◌≤◌, List, [], ◌∷◌, length, Bool, true, false, cond, nat_le, nat_lt, not, ◌||◌, ◌&&◌, Some, None, refl, sym, ap, ◌∙◌, arith}
+use Rattle.std.specs.Prelude.{flat_map, sum, take, map, sum_by, get_or, ◌==◌}
 use Rattle.std.specs.List.{range_with_len, list_all}
 use Rattle.std.proofs.lemmas.List.Sums.{AllPass-from_list_all}
 use Rattle.std.proofs.lemmas.Bool.{and_parts, leb-true, ltb-true, ltb-false}
 use Rattle.f2_bytes.specs.declared.layout.Layout.{Layout}
 use Rattle.f2_bytes.specs.Bytes.{Block, Image}
-use Rattle.f2_bytes.specs.Checkpoint.{Pack, is_log_valid, log_numbers, data_log_numbers, pack_head, pack_at, pack_total_block_count, pack_start_sum, checkpoint_ver, is_compact, has_node_summaries, data_summary_blocks, node_summary_blocks, compact_count, compact_blocks, orphans, orphans_in, log, is_pack_valid, agrees_with_layout, has_room_for_summaries, chosen_pack}
-use Rattle.f2_bytes.specs.Journal.{data_summary_start, node_summary_start, nat_journal_area, sit_journal_area}
-use Rattle.f2_bytes.specs.Summary.{Summary, pack_summary, compact_entry_place, compact_place, summary_at, summary_entry}
+use Rattle.f2_bytes.specs.Checkpoint.{Pack, is_log_valid, log_numbers, pack_head, pack_at, pack_total_block_count, pack_start_sum, checkpoint_ver, is_compact, data_summary_blocks, node_summary_blocks, compact_count, orphans, orphans_in, log, is_pack_valid, agrees_with_layout, has_room_for_summaries, chosen_pack}
+use Rattle.f2_bytes.specs.Journal.{data_summary_start, nat_journal_area, sit_journal_area}
+use Rattle.f2_bytes.specs.Summary.{compact_entry_place}
 
 -- the pack that counts is valid
 pub chosen_valid : (l : Layout) (image : Image) (n : ℕ) → chosen_pack l image ≡ Some n → is_pack_valid l (pack_at l image n) ≡ true
@@ -81,9 +81,6 @@ log_valid l head h t low =
     let at : test (get_or log_numbers t 0) ≡ true = AllPass-from_list_all test log_numbers all t 0 inside in
     sym (ap test (log_at t low)) ∙ at
 
-pub log_segment_low : (l : Layout) (head : Block) → agrees_with_layout l head ≡ true → (t : ℕ) → t < 6 → (log head t).segment < l.segments
-log_segment_low l head h t low = ltb-true (log head t).segment l.segments (and_parts _ _ (and_parts _ _ (log_valid l head h t low)).0).0
-
 pub count_low : (l : Layout) (head : Block) → agrees_with_layout l head ≡ true → (t : ℕ) → t < 6 → compact_count head t ≤ 512
 count_low l head h t low =
     let offset : (log head t).offset < 512 = ltb-true (log head t).offset 512 (and_parts _ _ (and_parts _ _ (log_valid l head h t low)).0).1 in
@@ -149,50 +146,3 @@ module _ (p q : Pack) (same : (j : ℕ) → j < pack_total_block_count (pack_hea
       let first = r.0 in
       let all = r.1 in
       rw (head-frame, flat_map_range (λ j. orphans_in (p j)) (λ j. orphans_in (q j)) 1 (pack_start_sum (pack_head p) - 1) (λ j low high. ap orphans_in (same j (omega (arith, low, high, first, all))))) refl
-
-  -- the summaries
-  pub pack_summary-frame : (l : Layout) → agrees_with_layout l (pack_head p) ≡ true → (t k : ℕ) → t < 6 → pack_summary q t k ≡ pack_summary p t k
-  unfolding pack_summary
-  pack_summary-frame l logs t k low =
-      let heads : pack_summary q t k ≡ in_pack (pack_head p) q = λ i. in_pack (head-frame i) q in
-      heads ∙ blocks
-    where
-      place : Block → ℕ × ℕ
-      place head = compact_place (map (compact_count head) data_log_numbers) t k
-
-      in_pack : Block → Pack → Option Summary
-      in_pack head x =
-          if nat_lt t 3
-          then (if is_compact head
-          then (if nat_lt k (compact_count head t) then Some (summary_at (x (data_summary_start head + (place head).0)) (place head).1) else None)
-          else Some (summary_entry (x (data_summary_start head + t)) k))
-          else (if has_node_summaries head then Some (summary_entry (x (node_summary_start head + (t - 3))) k) else None)
-
-      blocks : in_pack (pack_head p) q ≡ in_pack (pack_head p) p
-      blocks =
-          cond_same (nat_lt t 3)
-          (λ early. cond_same (is_compact (pack_head p))
-          (λ small. cond_same (nat_lt k (compact_count (pack_head p) t))
-          (λ inside. ap (λ b. Some (summary_at b (place (pack_head p)).1)) (same (data_summary_start (pack_head p) + (place (pack_head p)).0) (compact_bound early small inside)))
-          (λ past. refl))
-          (λ wide. ap (λ b. Some (summary_entry b k)) (same (data_summary_start (pack_head p) + t) (later_low wide t (ltb-true t 3 early)))))
-          (λ node. cond_same (has_node_summaries (pack_head p))
-          (λ has. ap (λ b. Some (summary_entry b k)) (same (node_summary_start (pack_head p) + (t - 3)) (node_bound node has)))
-          (λ none. refl))
-        where
-          compact_bound : nat_lt t 3 ≡ true → is_compact (pack_head p) ≡ true → nat_lt k (compact_count (pack_head p) t) ≡ true → data_summary_start (pack_head p) + (place (pack_head p)).0 < pack_total_block_count (pack_head p)
-          compact_bound early small inside =
-              let r = room (pack_head p) fits in
-              let few : pack_start_sum (pack_head p) + compact_blocks (pack_head p) + node_summary_blocks (pack_head p) + 1 ≤ pack_total_block_count (pack_head p) = rw small at r.1 in
-              let c = compact_count (pack_head p) in
-              let most : sum_by c data_log_numbers ≤ 1536 = sum_low c (count_low l (pack_head p) logs 0 (omega arith)) (count_low l (pack_head p) logs 1 (omega arith)) (count_low l (pack_head p) logs 2 (omega arith)) in
-              let entry : sum (take t (map c data_log_numbers)) + k < sum_by c data_log_numbers = taken_low c t k (ltb-true t 3 early) (ltb-true k (c t) inside) in
-              let at : (place (pack_head p)).0 < compact_blocks (pack_head p) = compact_low (sum_by c data_log_numbers) (sum (take t (map c data_log_numbers)) + k) most entry in
-              rw small (omega (arith, few, at))
-
-          node_bound : nat_lt t 3 ≡ false → has_node_summaries (pack_head p) ≡ true → node_summary_start (pack_head p) + (t - 3) < pack_total_block_count (pack_head p)
-          node_bound node has =
-              let r = room (pack_head p) fits in
-              let all : pack_start_sum (pack_head p) + data_summary_blocks (pack_head p) + 3 + 1 ≤ pack_total_block_count (pack_head p) = rw has at r.1 in
-              let first = r.0 in
-              omega (arith, all, first, low)

@@ -1,11 +1,11 @@
 -- The pack that is written, and what is read of it.
-use Rattle.std.proofs.Common.{◌≡◌, ℕ, zero, suc, ◌+◌, ◌-◌, ◌≤◌, ◌<◌, Bool, true, false, cond, nat_le, not, ◌&&◌, List, [], ◌∷◌, ◌++◌, length, take, map, Some, None, Ok, Err, refl, sym, ap, ◌∙◌, arith}
-use Rattle.std.specs.Prelude.{slice_range, flat_map, ◌||◌, ◌==◌}
+use Rattle.std.proofs.Common.{◌≡◌, ℕ, zero, suc, ◌+◌, ◌-◌, ◌≤◌, ◌<◌, Bool, true, false, cond, nat_le, not, ◌&&◌, List, [], ◌∷◌, ◌++◌, length, take, Some, None, Ok, Err, refl, sym, ap, ◌∙◌, arith}
+use Rattle.std.specs.Prelude.{slice_range, ◌||◌}
 use Rattle.std.proofs.lemmas.Bool.{and_parts, leb-true, le-leb, lt-leb}
-use Rattle.f2_bytes.specs.Bytes.{Block, Image, IsBlock, block_at, number_at, with_number, has_bit}
+use Rattle.f2_bytes.specs.Bytes.{Block, block_at, number_at, with_number, has_bit}
 use Rattle.f2_bytes.specs.Checksum.{with_seal, crc, magic_number}
 use Rattle.f2_bytes.specs.declared.layout.Layout.{Layout}
-use Rattle.f2_bytes.specs.Checkpoint.{Pack, pack_at, pack_head, pack_tail, pack_total_block_count, pack_start_sum, ckpt_flags, checkpoint_ver, chosen_pack, is_pack_valid, is_compact, has_orphans, has_node_summaries, data_summary_blocks, node_summary_blocks, compact_blocks}
+use Rattle.f2_bytes.specs.Checkpoint.{Pack, pack_at, pack_head, pack_tail, pack_total_block_count, pack_start_sum, checkpoint_ver, chosen_pack, is_pack_valid, is_compact, has_orphans, has_node_summaries, data_summary_blocks, node_summary_blocks, compact_blocks}
 use Rattle.f2_bytes.specs.Journal.{data_summary_start, node_summary_start, nat_journal_area, sit_journal_area, journal_count, nat_room, sit_room, are_journals_bounded}
 use Rattle.f2_bytes.proofs.Numbers.{number_at-front, take-with_number, length-with_number}
 use Rattle.f2_pack.specs.declared.writing.NewPack.{NewPack}

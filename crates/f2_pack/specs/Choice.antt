@@ -1,7 +1,7 @@
 -- Which pack counts, and what is answered of it.
-use Rattle.std.specs.Prelude.{◌≡◌, ℕ, ◌/◌, ◌^◌, ◌<◌, ◌≤◌, nat_le, nat_lt, true, if◌then◌else◌, List, length, Option, Some, None, Result, Ok, Err}
+use Rattle.std.specs.Prelude.{◌≡◌, ℕ, ◌/◌, ◌^◌, ◌<◌, nat_le, nat_lt, true, if◌then◌else◌, List, Option, Some, None, Result, Ok, Err}
 use Rattle.f2_bytes.specs.Bytes.{Block, Image}
-use Rattle.f2_bytes.specs.Checkpoint.{Pack, log, pack_at, pack_head, chosen_pack, checkpoint_ver, sit_ver_bitmap_bytesize, nat_ver_bitmap_bytesize, pack_start_sum, pack_total_block_count, data_summary_blocks, node_summary_blocks}
+use Rattle.f2_bytes.specs.Checkpoint.{Pack, log, pack_at, pack_head, chosen_pack, checkpoint_ver, sit_ver_bitmap_bytesize, nat_ver_bitmap_bytesize}
 use Rattle.f2_bytes.specs.Journal.{NatRecord, SitRecord, nat_records, sit_records, journal_count, nat_journal_area, sit_journal_area, nat_room, sit_room}
 use Rattle.f2_bytes.specs.declared.layout.Layout.{Layout}
 use Rattle.f2_pack.specs.Held.{Held, IsHeld, chosen_of, nat_area_in, sit_area_in}

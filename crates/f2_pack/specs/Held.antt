@@ -19,6 +19,18 @@ pub record Held : Type 0 where
   pub data_summaries : List Block
   pub node_summaries : List Block
 
+-- the same, from its parts
+abbrev pub held_of : Block → ℕ → List NatRecord × List SitRecord → List ℕ → List Block → List Block → Held
+held_of head number journals orphan_inodes summaries nodes = record {
+  head = head;
+  number = number;
+  nat_journal = journals.0;
+  sit_journal = journals.1;
+  orphan_inodes = orphan_inodes;
+  data_summaries = summaries;
+  node_summaries = nodes;
+}
+
 -- so many blocks of a pack, from one on
 abbrev pub blocks_of : Pack → ℕ → ℕ → List Block
 blocks_of pack start count = map pack (range_with_len start count)

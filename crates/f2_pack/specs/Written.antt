@@ -1,5 +1,5 @@
 -- The pack that is written.
-use Rattle.std.specs.Prelude.{◌≡◌, ℕ, List, [], ◌∷◌, ◌++◌}
+use Rattle.std.specs.Prelude.{◌≡◌, List, [], ◌∷◌, ◌++◌}
 use Rattle.f2_bytes.specs.Bytes.{Block, block_at}
 use Rattle.f2_bytes.specs.Checksum.{with_seal}
 use Rattle.f2_bytes.specs.Checkpoint.{Pack, ckpt_flags, pack_total_block_count}

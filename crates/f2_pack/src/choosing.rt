@@ -16,7 +16,7 @@ use f2_disk::{Disk, DiskFault};
 use std::alloc::{AllocError, AllocFailed, Global};
 use thiserror::Error;
 
-/// The version from which on no pack is taken: so many commits are left to those that count up from it.
+// The version from which on no pack is taken, so that no later one passes the end of its type.
 const VERSION_LIMIT: u64 = 1 << 62;
 
 /// Why no pack was chosen.
@@ -131,7 +131,7 @@ fn read_pack<D: Disk>(
 }
 
 /// Chooses the pack that counts, the valid one of the higher version and pack 0 at a tie, and reads what is kept of
-/// it. No block but a head is read twice.
+/// it. No block is read twice.
 pub fn choose<D: Disk>(alloc: Global, d: &mut D, l: &Layout) -> Result<Chosen, PackRefusal>
     requires in_order { IsInOrder l.now }
     requires inside { l.now.blocks ≤ (D.state d.old).size }

@@ -26,13 +26,13 @@ pub struct Chosen {
 }
 
 impl Model for Chosen {
-    ghost use Rattle.f2_pack.specs.Held.{Held, IsHeld};
+    ghost use Rattle.f2_pack.specs.Held.{Held, IsHeld, held_of};
 
     ghost Value = { Held };
 
-    ghost view = { λ c. record { head = c.head; number = c.pack; nat_journal = c.nat_journal; sit_journal = c.sit_journal; orphan_inodes = c.orphans.items; data_summaries = c.data_summaries.items; node_summaries = c.node_summaries.items } };
+    ghost view = { λ c. held_of c.head c.pack (c.nat_journal, c.sit_journal) c.orphans.items c.data_summaries.items c.node_summaries.items };
 
-    ghost invariant = { λ c. IsHeld (record { head = c.head; number = c.pack; nat_journal = c.nat_journal; sit_journal = c.sit_journal; orphan_inodes = c.orphans.items; data_summaries = c.data_summaries.items; node_summaries = c.node_summaries.items }) };
+    ghost invariant = { λ c. IsHeld (held_of c.head c.pack (c.nat_journal, c.sit_journal) c.orphans.items c.data_summaries.items c.node_summaries.items) };
 }
 
 // The summary in the 7 bytes of a block from `at` on.
@@ -91,7 +91,7 @@ fn compact_entry(head: &Checkpoint, summaries: &[Block], t: usize, k: usize) -> 
 }
 
 impl Chosen {
-    ghost use Rattle.f2_pack.specs.Held.{Held, IsHeld, held_summary};
+    ghost use Rattle.f2_pack.specs.Held.{IsHeld, held_of, held_summary};
 
     // What was read of a pack.
     pub(crate) fn of(
@@ -102,8 +102,8 @@ impl Chosen {
         data_summaries: Vec<Block>,
         node_summaries: Vec<Block>,
     ) -> Chosen
-        requires { IsHeld (record { head = head.now; number = pack; nat_journal = journals.0; sit_journal = journals.1; orphan_inodes = orphans.items; data_summaries = data_summaries.items; node_summaries = node_summaries.items }) }
-        ensures { result ≡ record { head = head.now; number = pack; nat_journal = journals.0; sit_journal = journals.1; orphan_inodes = orphans.items; data_summaries = data_summaries.items; node_summaries = node_summaries.items } }
+        requires { IsHeld (held_of head.now pack journals orphans.items data_summaries.items node_summaries.items) }
+        ensures { result ≡ held_of head.now pack journals orphans.items data_summaries.items node_summaries.items }
     {
         let (nat_journal, sit_journal) = journals;
         Chosen {

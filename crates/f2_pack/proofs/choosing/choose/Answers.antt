@@ -1,4 +1,4 @@
-use Rattle.std.proofs.Common.{◌≡◌, subst, sym, ◌∙◌}
+use Rattle.std.proofs.Common.{subst, sym, ◌∙◌}
 use Rattle.std.proofs.lemmas.Result.{err_from_is_err_and}
 use Rattle.f2_pack.specs.Choice.{OrFails, choice}
 use Rattle.f2_pack.proofs.HigherHeads.{refused_choice, found_choice}

@@ -1,10 +1,10 @@
-use Rattle.std.proofs.Common.{◌≡◌, ◌+◌, ◌-◌, ◌*◌, ◌≤◌, [], map, Ok, Err, ap, subst, ◌∙◌, sym, arith}
+use Rattle.std.proofs.Common.{◌≡◌, ◌+◌, ◌-◌, ◌*◌, [], map, Ok, ap, subst, ◌∙◌, sym, arith}
 use Rattle.std.specs.Prelude.{flat_map, if◌then◌else◌}
 use Rattle.std.specs.List.{range_with_len}
 use Rattle.std.proofs.lemmas.Result.{err_from_is_err_and}
 use Rattle.f2_bytes.specs.Bytes.{block_at}
-use Rattle.f2_bytes.specs.Checkpoint.{pack_at, data_summary_blocks, node_summary_blocks, has_orphans, orphans_in, pack_start_sum}
-use Rattle.f2_bytes.specs.Journal.{data_summary_start, node_summary_start}
+use Rattle.f2_bytes.specs.Checkpoint.{pack_at, data_summary_blocks, has_orphans, orphans_in, pack_start_sum}
+use Rattle.f2_bytes.specs.Journal.{data_summary_start}
 use Rattle.f2_pack.specs.Held.{blocks_of, nat_area_in, sit_area_in}
 use Rattle.f2_pack.specs.Choice.{journals_in, IsChosen}
 use Rattle.f2_pack.proofs.Kept.{data_end}

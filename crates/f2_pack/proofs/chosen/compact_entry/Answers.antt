@@ -1,8 +1,8 @@
-use Rattle.std.proofs.Common.{◌≡◌, ℕ, ◌<◌, ◌≤◌, List, [], ◌∷◌, map, length, Some, ap, ◌∙◌, sym, arith, get_or}
+use Rattle.std.proofs.Common.{◌≡◌, ℕ, ◌<◌, List, [], ◌∷◌, map, length, Some, ap, ◌∙◌, arith, get_or}
 use Rattle.std.proofs.lemmas.List.{get_or_default}
-use Rattle.f2_bytes.specs.Bytes.{Block, block_at}
-use Rattle.f2_bytes.specs.Summary.{compact_place, summary_at}
-use Rattle.f2_bytes.specs.Checkpoint.{compact_count, data_log_numbers, data_summary_blocks}
+use Rattle.f2_bytes.specs.Bytes.{block_at}
+use Rattle.f2_bytes.specs.Summary.{compact_place}
+use Rattle.f2_bytes.specs.Checkpoint.{compact_count, data_log_numbers}
 use Rattle.f2_pack.proofs.Kept.{compact_kept, compact_inside, count_at}
 use Rattle.f2_pack.proofs.chosen.compact_entry.Goals as goal
 

@@ -1,7 +1,6 @@
-use Rattle.std.proofs.Common.{◌≡◌, ◌+◌, ◌-◌, ◌*◌, ◌<◌, ◌≤◌, ap, ◌∙◌, sym, true, false, arith}
+use Rattle.std.proofs.Common.{◌≡◌, ◌-◌, ap, ◌∙◌, sym, arith}
 use Rattle.f2_bytes.specs.Bytes.{block_at}
 use Rattle.f2_bytes.specs.Checkpoint.{pack_at, pack_total_block_count}
-use Rattle.f2_pack.specs.Valid.{is_head_valid, is_tail_of}
 use Rattle.f2_pack.proofs.ValidHeads.{head_facts, head_in-bad, head_in-other, head_in-good}
 use Rattle.f2_pack.proofs.validity.valid_head.Goals as goal
 

@@ -1,4 +1,4 @@
-use Rattle.std.proofs.Common.{◌<◌, ◌^◌, ◌+◌, ℕ, subst}
+use Rattle.std.proofs.Common.{◌<◌, ◌^◌, ℕ, subst}
 use Rattle.f2_pack.proofs.Rows.{data_offset-width}
 use Rattle.f2_pack.proofs.checkpoint.Checkpoint.offset.Goals as goal
 

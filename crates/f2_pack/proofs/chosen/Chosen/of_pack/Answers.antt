@@ -1,8 +1,7 @@
 use Rattle.std.proofs.Common.{◌≡◌, [], length, true, Ok, sym, ap, subst, ◌∙◌, arith}
-use Rattle.std.specs.Prelude.{slice_range}
-use Rattle.f2_bytes.specs.Bytes.{Block, IsBlock}
+use Rattle.f2_bytes.specs.Bytes.{IsBlock}
 use Rattle.f2_bytes.specs.Checksum.{with_seal}
-use Rattle.f2_bytes.specs.Checkpoint.{pack_head, has_orphans, data_summary_blocks, node_summary_blocks}
+use Rattle.f2_bytes.specs.Checkpoint.{has_orphans, data_summary_blocks, node_summary_blocks}
 use Rattle.f2_bytes.specs.Journal.{nat_records, sit_records, nat_journal_area, sit_journal_area}
 use Rattle.f2_pack.specs.Choice.{IsChosen, journals_in, read_of}
 use Rattle.f2_pack.specs.Held.{chosen_of, nat_area_in, sit_area_in}
