@@ -1,13 +1,13 @@
 -- The lines of a record's fields, one by one.
-use Rattle.std.proofs.Common.{◌≡◌, ℕ, ◌+◌, ◌≤◌, ◌<◌, Bool, true, List, [], ◌∷◌, ◌++◌, length, get_or, refl, sym, ap, ◌∙◌, subst, arith, inl, inr}
-use Rattle.std.specs.Prelude.{flat_map, nat_le, ◌&&◌, IsTrue}
+use Rattle.std.proofs.Common.{◌≡◌, ℕ, ◌+◌, ◌≤◌, true, List, [], ◌∷◌, ◌++◌, length, sym, ap, ◌∙◌, subst, arith, inl, inr}
+use Rattle.std.specs.Prelude.{flat_map, nat_le, ◌&&◌}
 use Rattle.std.specs.List.{list_all}
 use Rattle.std.proofs.lemmas.Bool.{cases_lt, and_parts, leb-true}
 use Rattle.std.proofs.lemmas.Grind.{flat_map-append}
 use Rattle.std.proofs.lemmas.List.{get_or_past, append-nil}
 use Rattle.f2_bytes.specs.declared.fields.Field.{Field}
 use Rattle.f2_bytes.specs.Bytes.{numbers_below}
-use Rattle.f2_bytes.specs.Fields.{field, field_at, row_at, lies_in}
+use Rattle.f2_bytes.specs.Fields.{field, row_at, lies_in}
 use Rattle.f2_bytes.proofs.SetBits.{range-append}
 use Rattle.f2_bytes.proofs.Tables.{row_passes}
 

@@ -1,12 +1,11 @@
 -- An image that can be loaded is not refused.
-use Rattle.std.proofs.Common.{◌≡◌, ◌==◌, ℕ, ◌+◌, ◌^◌, ◌≤◌, ◌<◌, Bool, List, true, false, cond, length, Option, Some, None, Ok, refl, sym, ap, ◌∙◌, arith, subst}
+use Rattle.std.proofs.Common.{◌≡◌, ◌==◌, ℕ, ◌^◌, ◌<◌, Bool, List, true, false, cond, length, Option, Some, None, Ok, refl, ap, ◌∙◌, arith, subst}
 use Rattle.std.specs.Prelude.{◌&&◌, nat_le, nat_lt, is_some, unwrap_or}
-use Rattle.std.proofs.lemmas.Bool.{and_parts, leb-true, ltb-true}
+use Rattle.std.proofs.lemmas.Bool.{leb-true, ltb-true}
 use Rattle.f2_bytes.specs.Bytes.{Image, block_at}
 use Rattle.f2_bytes.specs.Superblock.{copy_of, super_copy, has_twins, is_loadable, unsupported_features, block_count}
-use Rattle.f2_super.specs.Load.{loaded, loaded_copy, refusal_of, unless}
+use Rattle.f2_super.specs.Load.{loaded_copy, refusal_of, unless}
 use Rattle.f2_super.specs.declared.loading.Found.{Found}
-use Rattle.f2_super.specs.declared.loading.SuperRefusal.{SuperRefusal}
 use Rattle.f2_super.specs.declared.loading.SuperRefusal.TheVariants.{Unsupported, TooLarge, Truncated}
 
 not_below : (a b : ℕ) → nat_le b a ≡ true → nat_lt a b ≡ false

@@ -1,5 +1,5 @@
 -- What a job answers where neither the disk nor the sink has a fault.
-use Rattle.std.proofs.Common.{◌≡◌, ◌≢◌, ◌⊎◌, ◌∙◌, ℕ, length, Option, Some, None, ap, cond, inl, inr, refl, ⊎_elim}
+use Rattle.std.proofs.Common.{◌≡◌, ◌∙◌, ℕ, length, Option, Some, None, ap, cond, inl, inr, refl, ⊎_elim}
 use Rattle.std.specs.Prelude.{true}
 use Rattle.f2_bytes.specs.Bytes.{Image}
 use Rattle.f2_bytes.specs.Superblock.{has_twins, is_loadable}

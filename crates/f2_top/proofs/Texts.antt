@@ -1,12 +1,11 @@
 -- The text of a run: what its job put, and then the last line.
-use Rattle.std.proofs.Common.{◌≡◌, ◌≢◌, ◌⊎◌, ◌∙◌, ℕ, ◌+◌, ◌≤◌, List, [], ◌++◌, length, take, min, Option, Some, None, Ok, Err, Result, refl, sym, ap, subst, append_assoc, arith, inl, inr, ⊎_elim}
+use Rattle.std.proofs.Common.{◌≡◌, ◌≢◌, ◌⊎◌, ◌∙◌, ℕ, ◌+◌, List, [], ◌++◌, length, take, min, Option, Some, None, refl, sym, ap, subst, append_assoc, arith, inl, inr}
 use Rattle.std.proofs.lemmas.List.{append-nil, take-append-le, take_min}
 use Rattle.std.proofs.Math.Seq.{take-append-add, take-nil}
 use Rattle.f2_bytes.specs.Bytes.{Image}
-use Rattle.f2_disk.specs.Disk.{State, Rose}
-use Rattle.f2_disk.specs.Sink.{Puts}
-use Rattle.f2_top.specs.Run.{Allowed, AreLines, Printed, answer_of}
-use Rattle.f2_top.specs.Text.{IsFront, IsText, last_of, last_line}
+use Rattle.f2_disk.specs.Disk.{State}
+use Rattle.f2_top.specs.Run.{Allowed, Printed, answer_of}
+use Rattle.f2_top.specs.Text.{IsFront, IsText, last_of}
 use Rattle.f2_top.specs.declared.answer.Answer.{Answer}
 use Rattle.f2_top.specs.declared.answer.Answer.TheVariants.{Done, Corrected, DiskFault, SinkFault, Usage, Refused, NoMemory}
 use Rattle.f2_top.specs.declared.jobs.Job.{Job}

@@ -1,5 +1,5 @@
 -- What a run answers, what it prints, and what it leaves on the disk.
-use Rattle.std.specs.Prelude.{◌≡◌, ◌≢◌, ◌⊎◌, ℕ, Bool, true, false, if◌then◌else◌, List, [], ◌++◌, take, Option, Some, None, Result, Ok, Err}
+use Rattle.std.specs.Prelude.{◌≡◌, ◌≢◌, ◌⊎◌, ℕ, true, if◌then◌else◌, List, [], ◌++◌, take, Option, Some, None, Result, Ok, Err}
 use Rattle.f2_bytes.specs.Bytes.{Image}
 use Rattle.f2_bytes.specs.Superblock.{has_twins, is_loadable}
 use Rattle.f2_disk.specs.Disk.{State, Rose}

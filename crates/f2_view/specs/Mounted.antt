@@ -1,5 +1,5 @@
 -- What a mount keeps of an image.
-use Rattle.std.specs.Prelude.{◌≡◌, ℕ, ◌^◌, ◌<◌, ◌≤◌}
+use Rattle.std.specs.Prelude.{ℕ, ◌^◌, ◌<◌, ◌≤◌}
 use Rattle.f2_bytes.specs.Superblock.{layout_of, IsInOrder}
 use Rattle.f2_bytes.specs.Checkpoint.{checkpoint_ver}
 use Rattle.f2_super.specs.declared.loading.Found.{Found}

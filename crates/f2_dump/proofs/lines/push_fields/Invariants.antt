@@ -1,4 +1,4 @@
-use Rattle.std.proofs.Common.{◌≡◌, ◌++◌, ℕ, [], get_or, map}
+use Rattle.std.proofs.Common.{◌≡◌, ◌++◌, [], get_or, map}
 use Rattle.std.specs.Prelude.{flat_map}
 use Rattle.f2_bytes.specs.Bytes.{numbers_below}
 use Rattle.f2_bytes.specs.Fields.{field_at}

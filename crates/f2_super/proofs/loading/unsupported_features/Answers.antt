@@ -1,4 +1,4 @@
-use Rattle.std.proofs.Common.{◌≡◌, ◌∙◌, ◌-◌, ◌^◌, ℕ, ap, arith}
+use Rattle.std.proofs.Common.{◌≡◌, ◌∙◌, ◌-◌, ◌^◌, ap, arith}
 use Rattle.std.specs.Int.RustNames.{bit_and}
 use Rattle.bitflags.proofs.OnLiterals.{bitflags_on_literals}
 use Rattle.f2_bytes.specs.Superblock.{feature, unsupported_features}

@@ -1,4 +1,4 @@
-use Rattle.std.proofs.Common.{Some, List, ℕ, subst}
+use Rattle.std.proofs.Common.{Some, subst}
 use Rattle.f2_top.specs.Run.{AreLines}
 use Rattle.f2_top.proofs.top.answer.Goals as goal
 

@@ -1,7 +1,5 @@
-use Rattle.std.proofs.Common.{◌++◌, ◌≡◌, List, ℕ, Result, Option, map, arith, sym, subst, ⊎_elim}
-use Rattle.std.specs.Prelude.{string_bytes}
+use Rattle.std.proofs.Common.{◌++◌, arith, sym, subst, ⊎_elim}
 use Rattle.f2_disk.specs.Sink.{Puts}
-use Rattle.f2_top.specs.Jobs.{job_of}
 use Rattle.f2_top.specs.Run.{AreLines, IsAnswered, Printed}
 use Rattle.f2_top.specs.Text.{last_of}
 use Rattle.f2_top.proofs.Answered.{answered}
