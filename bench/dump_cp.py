@@ -6,23 +6,19 @@ below 1.5. Nor should it be slower than the real `dump.f2fs IMAGE`, which prints
 This is printed, and nothing fails where it is not so.
 """
 import os
-import re
 import shutil
 import statistics
 import subprocess
 import sys
 import tempfile
-import time
 
-TOP = os.path.dirname(os.path.dirname(os.path.abspath(__file__)))
-PROGRAM = os.path.abspath(os.environ.get("F2TOOLS", f"{TOP}/crates/f2_tools/out/f2_tools"))
+sys.dont_write_bytecode = True
+from measuring import BLOCK, PROGRAM, SIZES, count_calls, lay_out_images, need_program, print_row, start
+
 os.environ["PATH"] += ":/usr/sbin:/sbin"
-BLOCK = 4096
-SIZES = {"64 MiB": 16_384, "1 TiB": 268_435_456}  # blocks
 SIDES = ("dump --cp", "dump.f2fs")
 SAMPLES = 11
 STARTS = 10  # of each program, in each sample
-CALLS = "pread64,read,pwrite64,write,fsync,fdatasync"
 
 
 def words_of(side, image):
@@ -35,22 +31,9 @@ def make(image, blocks):
     subprocess.run(["mkfs.f2fs", "-q", "-f", image], check=True, stdout=subprocess.DEVNULL)
 
 
-def run(side, image):
-    """Starts the program once, and answers the seconds until its end."""
-    words = words_of(side, image)
-    output = (os.POSIX_SPAWN_OPEN, 1, os.devnull, os.O_WRONLY, 0)
-    begun = time.perf_counter()
-    process = os.posix_spawn(words[0], words, os.environ, file_actions=[output])
-    status = os.waitstatus_to_exitcode(os.waitpid(process, 0)[1])
-    seconds = time.perf_counter() - begun
-    if status != 0:
-        sys.exit(f"{' '.join(words)} ended with status {status}, and not 0")
-    return seconds
-
-
 def sample(side, image):
     """The mean time of a start, in milliseconds."""
-    return sum(run(side, image) for _ in range(STARTS)) * 1000 / STARTS
+    return sum(start(words_of(side, image), 0) for _ in range(STARTS)) * 1000 / STARTS
 
 
 def measure(images):
@@ -61,31 +44,6 @@ def measure(images):
         for side, size in pairs if number % 2 == 0 else pairs[::-1]:
             found[side, size].append(sample(side, images[size]))
     return {pair: statistics.median(samples) for pair, samples in found.items()}
-
-
-def count_calls(image, log):
-    """The blocks read, the blocks written and the syncs of one `dump --cp`, or None where strace can't trace it."""
-    words = ["strace", "-f", "-y", "-o", log, "-e", f"trace={CALLS}", *words_of("dump --cp", image)]
-    ended = subprocess.run(words, stdout=subprocess.DEVNULL, stderr=subprocess.DEVNULL)
-    if ended.returncode != 0 or not os.path.isfile(log):
-        return None
-    read = written = syncs = 0
-    with open(log, errors="replace") as lines:
-        for line in lines:
-            # only calls on the image, each as `PID pread64(3</tmp/image>, ..) = 4096`
-            call = re.search(rf"(\w+)\(\d+<{re.escape(image)}>.* = (\d+)$", line.rstrip())
-            if call is None:
-                continue
-            name, result = call[1], int(call[2])
-            read += result * name.startswith(("read", "pread"))
-            written += result * name.startswith(("write", "pwrite"))
-            syncs += name in ("fsync", "fdatasync")
-    os.remove(log)
-    return (read / BLOCK, written / BLOCK, syncs) if read else None
-
-
-def print_row(*words):
-    print(f"{words[0]:22}" + "".join(f"{word:>16}" for word in words[1:]))
 
 
 def print_times(medians):
@@ -109,19 +67,13 @@ def print_calls(counts):
 
 
 def main():
-    if not os.access(PROGRAM, os.X_OK):
-        sys.exit(f"no program at {PROGRAM}: run make build, or set F2TOOLS")
+    need_program()
     if shutil.which("mkfs.f2fs") is None or shutil.which("dump.f2fs") is None:
         print("skipped: mkfs.f2fs and dump.f2fs are not installed")
         return
     with tempfile.TemporaryDirectory(prefix="f2tools.") as folder:
         folder = os.path.realpath(folder)
-        images = {size: f"{folder}/image-{blocks}" for size, blocks in SIZES.items()}
-        for size, image in images.items():
-            try:
-                make(image, SIZES[size])
-            except (OSError, subprocess.CalledProcessError) as why:
-                sys.exit(f"no image of {size} in {folder} ({why}): set TMPDIR to a folder that takes one")
+        images = lay_out_images(folder, make)
 
         print(f"{os.cpu_count()} cores; medians of {SAMPLES} samples of {STARTS} starts each")
         print()
@@ -131,7 +83,8 @@ def main():
         if shutil.which("strace") is None:
             print("blocks read and written are not counted: strace is not installed")
             return
-        print_calls([count_calls(image, f"{folder}/log") for image in images.values()])
+        words = {image: words_of("dump --cp", image) for image in images.values()}
+        print_calls([count_calls(words[image], 0, image, f"{folder}/log") for image in words])
 
 
 if __name__ == "__main__":

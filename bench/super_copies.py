@@ -5,25 +5,20 @@ The time of the job should not grow with the image: the ratio of both medians sh
 printed, and nothing fails where it is not so.
 """
 import os
-import re
 import shutil
 import statistics
-import subprocess
 import sys
 import tempfile
-import time
 
-TOP = os.path.dirname(os.path.dirname(os.path.abspath(__file__)))
 sys.dont_write_bytecode = True
-sys.path.insert(0, f"{TOP}/scripts")
-from superblock_image import BLOCK, COPY_LENGTH, COPY_START, lay_out
+from measuring import PROGRAM, SIZES, TOP, count_calls, lay_out_images, need_program, print_row, start
 
-PROGRAM = os.path.abspath(os.environ.get("F2TOOLS", f"{TOP}/crates/f2_tools/out/f2_tools"))
-SIZES = {"64 MiB": 16_384, "1 TiB": 268_435_456}  # blocks
+sys.path.insert(0, f"{TOP}/scripts")
+from superblock_image import COPY_LENGTH, COPY_START, lay_out
+
 STATUSES = {"done": 0, "corrected": 1}
 SAMPLES = 11
 STARTS = 50  # of the program, in each sample
-CALLS = "pread64,pwrite64,read,write,lseek,fsync,fdatasync"
 
 
 def zero_first_copy(image):
@@ -34,17 +29,8 @@ def zero_first_copy(image):
         os.fsync(file.fileno())
 
 
-def run(image, case):
-    """Starts the program once, and answers the seconds until its end."""
-    words = [PROGRAM, image, "fsck", "--super"]
-    output = (os.POSIX_SPAWN_OPEN, 1, os.devnull, os.O_WRONLY, 0)
-    begun = time.perf_counter()
-    process = os.posix_spawn(PROGRAM, words, os.environ, file_actions=[output])
-    status = os.waitstatus_to_exitcode(os.waitpid(process, 0)[1])
-    seconds = time.perf_counter() - begun
-    if status != STATUSES[case]:
-        sys.exit(f"{' '.join(words)} ended with status {status}, and not {STATUSES[case]}")
-    return seconds
+def words_of(image):
+    return [PROGRAM, image, "fsck", "--super"]
 
 
 def sample(image, case):
@@ -53,7 +39,7 @@ def sample(image, case):
     for _ in range(STARTS):
         if case == "corrected":
             zero_first_copy(image)
-        seconds += run(image, case)
+        seconds += start(words_of(image), STATUSES[case])
     return seconds * 1000 / STARTS
 
 
@@ -68,44 +54,18 @@ def measure(images):
     return {key: statistics.median(samples) for key, samples in found.items()}
 
 
-def count_calls(image, case, log):
-    """The blocks read, the blocks written and the syncs of one run, or None where strace can't trace it."""
+def print_calls(image, case, size, log):
     if case == "corrected":
         zero_first_copy(image)
-    words = ["strace", "-f", "-y", "-o", log, "-e", f"trace={CALLS}", PROGRAM, image, "fsck", "--super"]
-    ended = subprocess.run(words, stdout=subprocess.DEVNULL, stderr=subprocess.DEVNULL)
-    if ended.returncode != STATUSES[case] or not os.path.isfile(log):
-        return None
-    read = written = syncs = 0
-    with open(log, errors="replace") as lines:
-        for line in lines:
-            # only calls on the image, each as `PID pread64(3</tmp/image>, ..) = 4096`
-            call = re.search(rf"(\w+)\(\d+<{re.escape(image)}>.* = (\d+)$", line.rstrip())
-            if call is None:
-                continue
-            name, result = call[1], int(call[2])
-            read += result * name.startswith(("read", "pread"))
-            written += result * name.startswith(("write", "pwrite"))
-            syncs += name in ("fsync", "fdatasync")
-    os.remove(log)
-    return (f"{read / BLOCK:g}", f"{written / BLOCK:g}", str(syncs)) if read else None
-
-
-def print_row(*words):
-    print(f"{words[0]:18}" + "".join(f"{word:>16}" for word in words[1:]))
+    counts = count_calls(words_of(image), STATUSES[case], image, log)
+    print_row(f"{case}, {size}", *([f"{count:g}" for count in counts] if counts else ["strace failed"]))
 
 
 def main():
-    if not os.access(PROGRAM, os.X_OK):
-        sys.exit(f"no program at {PROGRAM}: run make build, or set F2TOOLS")
+    need_program()
     with tempfile.TemporaryDirectory(prefix="f2tools.") as folder:
         folder = os.path.realpath(folder)
-        images = {size: f"{folder}/image-{blocks}" for size, blocks in SIZES.items()}
-        for size, image in images.items():
-            try:
-                lay_out(image, SIZES[size])
-            except OSError as why:
-                sys.exit(f"no sparse file of {size} in {folder} ({why.strerror}): set TMPDIR to a folder that takes one")
+        images = lay_out_images(folder, lay_out)
 
         print(f"{os.cpu_count()} cores; medians of {SAMPLES} samples of {STARTS} starts each")
         print()
@@ -122,8 +82,7 @@ def main():
         print_row("calls of a run", "blocks read", "blocks written", "syncs")
         for case in STATUSES:
             for size, image in images.items():
-                counts = count_calls(image, case, f"{folder}/log")
-                print_row(f"{case}, {size}", *(counts or ["strace failed"]))
+                print_calls(image, case, size, f"{folder}/log")
 
 
 if __name__ == "__main__":

@@ -8,7 +8,6 @@ if ! command -v mkfs.f2fs >/dev/null; then
 fi
 source "$(dirname "$0")/expect.bash"
 
-PROFILE=$((0xA00)) # lost_found and sb_checksum
 FIELDS=65
 
 packs() {
@@ -104,17 +103,9 @@ check_inodes() {
 
 # check SIZE OPTION..: everything, on an image of this size that mkfs.f2fs makes with these options.
 check() {
-    local name="$*" size=$1 feature
+    local name="$*" size=$1
     shift
-    made=$tmp/made
-    rm -f "$made"
-    truncate -s "$size" "$made"
-    mkfs.f2fs -q -f "$@" "$made" >/dev/null
-    feature=$(od -A n -t u4 -j $((1024 + 2180)) -N 4 "$made")
-    if ((feature & ~PROFILE)); then
-        echo "skipped: $name: this mkfs.f2fs turns on other features ($(printf '0x%X' "$feature"))"
-        return
-    fi
+    make_image "$name" "$size" "$@" || return 0
     check_packs "$name: fresh"
 
     if ((loads)); then

@@ -40,6 +40,25 @@ expect_same() {
     cmp -s "$2" "$3" || fail "$1: $(cmp "$2" "$3" 2>&1 || true)"
 }
 
+# make_image NAME SIZE OPTION..: makes $made by mkfs.f2fs, and says its features in $feature. False where this mkfs.f2fs
+# turns on others than lost_found and sb_checksum.
+make_image() {
+    local name=$1 size=$2
+    shift 2
+    made=$tmp/made
+    rm -f "$made"
+    truncate -s "$size" "$made"
+    if ! mkfs.f2fs -q -f "$@" "$made" >/dev/null; then
+        fail "$name: mkfs.f2fs ended badly"
+        return 1
+    fi
+    feature=$(od -A n -t u4 -j $((1024 + 2180)) -N 4 "$made")
+    if ((feature & ~0xA00)); then
+        echo "skipped: $name: this mkfs.f2fs turns on other features ($(printf '0x%X' "$feature"))"
+        return 1
+    fi
+}
+
 # The last command of a script.
 finish() {
     if ((failures > 0)); then

@@ -8,8 +8,6 @@ if ! command -v mkfs.f2fs >/dev/null || ! command -v fsck.f2fs >/dev/null; then
 fi
 source "$(dirname "$0")/expect.bash"
 
-PROFILE=$((0xA00)) # lost_found and sb_checksum
-
 # A copy is 3 KiB long, and begins at this KiB of the file.
 start_of=(1 5)
 
@@ -66,17 +64,9 @@ expect_repair() {
 
 # check SIZE HOW OPTION..: everything, on an image of this size that mkfs.f2fs makes with these options.
 check() {
-    local name="$*" size=$1 how=$2 feature copy
+    local name="$*" size=$1 how=$2 copy
     shift 2
-    made=$tmp/made
-    rm -f "$made"
-    truncate -s "$size" "$made"
-    mkfs.f2fs -q -f "$@" "$made" >/dev/null
-    feature=$(od -A n -t u4 -j $((1024 + 2180)) -N 4 "$made")
-    if ((feature & ~PROFILE)); then
-        echo "skipped: $name: this mkfs.f2fs turns on other features ($(printf '0x%X' "$feature"))"
-        return
-    fi
+    make_image "$name" "$size" "$@" || return 0
     # the bytes before a copy are not the program's to write
     for copy in 0 1; do
         printf 'bytes before copy %s' "$copy" | dd of="$made" bs=4K seek="$copy" conv=notrunc status=none

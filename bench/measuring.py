@@ -1,0 +1,65 @@
+"""What the benchmarks share: the program, the sizes, one start of a program, and its calls on an image."""
+import os
+import re
+import subprocess
+import sys
+import time
+
+TOP = os.path.dirname(os.path.dirname(os.path.abspath(__file__)))
+PROGRAM = os.path.abspath(os.environ.get("F2TOOLS", f"{TOP}/crates/f2_tools/out/f2_tools"))
+BLOCK = 4096
+SIZES = {"64 MiB": 16_384, "1 TiB": 268_435_456}  # blocks
+CALLS = "pread64,pwrite64,read,write,lseek,fsync,fdatasync"
+
+
+def need_program():
+    if not os.access(PROGRAM, os.X_OK):
+        sys.exit(f"no program at {PROGRAM}: run make build, or set F2TOOLS")
+
+
+def lay_out_images(folder, lay_out):
+    """An image of each size, by its name, made by `lay_out(image, blocks)`."""
+    images = {size: f"{folder}/image-{blocks}" for size, blocks in SIZES.items()}
+    for size, image in images.items():
+        try:
+            lay_out(image, SIZES[size])
+        except (OSError, subprocess.CalledProcessError) as why:
+            sys.exit(f"no image of {size} in {folder} ({why}): set TMPDIR to a folder that takes one")
+    return images
+
+
+def start(words, wanted):
+    """Starts a program once, and answers the seconds until its end, which has to be with this status."""
+    output = (os.POSIX_SPAWN_OPEN, 1, os.devnull, os.O_WRONLY, 0)
+    begun = time.perf_counter()
+    process = os.posix_spawn(words[0], words, os.environ, file_actions=[output])
+    status = os.waitstatus_to_exitcode(os.waitpid(process, 0)[1])
+    seconds = time.perf_counter() - begun
+    if status != wanted:
+        sys.exit(f"{' '.join(words)} ended with status {status}, and not {wanted}")
+    return seconds
+
+
+def count_calls(words, wanted, image, log):
+    """The blocks read, the blocks written and the syncs of one start, or None where strace can't trace it."""
+    traced = ["strace", "-f", "-y", "-o", log, "-e", f"trace={CALLS}", *words]
+    ended = subprocess.run(traced, stdout=subprocess.DEVNULL, stderr=subprocess.DEVNULL)
+    if ended.returncode != wanted or not os.path.isfile(log):
+        return None
+    read = written = syncs = 0
+    with open(log, errors="replace") as lines:
+        for line in lines:
+            # only calls on the image, each as `PID pread64(3</tmp/image>, ..) = 4096`
+            call = re.search(rf"(\w+)\(\d+<{re.escape(image)}>.* = (\d+)$", line.rstrip())
+            if call is None:
+                continue
+            name, result = call[1], int(call[2])
+            read += result * name.startswith(("read", "pread"))
+            written += result * name.startswith(("write", "pwrite"))
+            syncs += name in ("fsync", "fdatasync")
+    os.remove(log)
+    return (read / BLOCK, written / BLOCK, syncs) if read else None
+
+
+def print_row(*words):
+    print(f"{words[0]:22}" + "".join(f"{word:>16}" for word in words[1:]))
