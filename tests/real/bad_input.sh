@@ -58,6 +58,9 @@ check_contents() {
     expect_answer 'an unknown feature' 20 'refused 2 Unsupported 1'
     lay_out "$image" 16384 --feature ffffffff --zero-first
     expect_answer 'all features, in the second copy alone' 20 'refused 2 Unsupported 4294964735'
+    # both superblock copies are good, and there is no checkpoint
+    lay_out "$image" 16384
+    expect_unchanged 'no checkpoint pack' 20 'refused 5 NoPack' "$program" "$image" dump --cp
     if lay_out "$image" 268435457 >/dev/null 2>&1; then
         truncate -s 8192 "$image"
         expect_answer 'more than 1 TiB' 20 'refused 3 TooLarge 268435457'
@@ -67,14 +70,21 @@ check_contents() {
 }
 
 check_names() {
+    local job
     mkdir "$tmp/folder"
-    expect 'a folder' 8 'disk fault' "$program" "$tmp/folder" fsck --super
-    # the length of this folder is 0
-    expect 'the folder /proc' 8 'disk fault' "$program" /proc fsck --super
-    expect 'a missing file' 8 'disk fault' "$program" "$tmp/missing" fsck --super
-    [[ ! -e $tmp/missing ]] || fail 'a missing file: it was made'
-    expect 'a file in a missing folder' 8 'disk fault' "$program" "$tmp/missing/image" fsck --super
-    expect 'an empty name' 8 'disk fault' "$program" '' fsck --super
+    for job in 'fsck --super' 'dump --cp'; do
+        # $job is two words
+        # shellcheck disable=SC2086
+        {
+            expect "$job: a folder" 8 'disk fault' "$program" "$tmp/folder" $job
+            # the length of this folder is 0
+            expect "$job: the folder /proc" 8 'disk fault' "$program" /proc $job
+            expect "$job: a missing file" 8 'disk fault' "$program" "$tmp/missing" $job
+            [[ ! -e $tmp/missing ]] || fail "$job: a missing file: it was made"
+            expect "$job: a file in a missing folder" 8 'disk fault' "$program" "$tmp/missing/image" $job
+            expect "$job: an empty name" 8 'disk fault' "$program" '' $job
+        }
+    done
 }
 
 # Runs a command as a user that file permissions bind.
@@ -140,6 +150,8 @@ check_outputs() {
         expect_same "$output: corrected" "$image" "$tmp/good"
         lay_out "$image" 16384 --zero-first --zero-second
         expect_unchanged "$output: refused" 9 '' "$output" "$program" "$image" fsck --super
+        lay_out "$image" 16384
+        expect_unchanged "$output: a dump" 9 '' "$output" "$program" "$image" dump --cp
         expect_unchanged "$output: usage" 9 '' "$output" "$program" "$image" fsck
         expect "$output: disk fault" 9 '' "$output" "$program" "$tmp/missing" fsck --super
         expect "$output: no words" 9 '' "$output" "$program"
@@ -162,6 +174,9 @@ check_words() {
     expect_usage 'the words turned' "$image" --super fsck
     expect_usage 'a word too many' "$image" fsck --super --super
     expect_usage 'an empty word too many' "$image" fsck --super ''
+    expect_usage 'a dump without its option' "$image" dump
+    expect_usage 'the option of another tool' "$image" dump --super
+    expect_usage 'a word too many for a dump' "$image" dump --cp 0
     expect_usage 'an unknown tool' "$image" repair --super
     expect_usage 'an unknown option' "$image" fsck --superb
     expect_usage 'a shorter option' "$image" fsck --sup
