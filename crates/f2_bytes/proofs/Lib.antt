@@ -1,5 +1,6 @@
 pub mod Below
 pub mod CopyFacts
+pub mod Entries
 pub mod HalvedSteps
 pub mod Numbers
 pub mod Seals

@@ -1,5 +1,5 @@
 -- The entries of the two tables, and the journals that go before them.
-use Rattle.std.specs.Prelude.{ℕ, ◌+◌, ◌-◌, ◌*◌, ◌/◌, ◌%◌, ◌<◌, ◌&&◌, Bool, nat_le, if◌then◌else◌, List, ◌++◌, map, flat_map, length, replicate}
+use Rattle.std.specs.Prelude.{◌≡◌, ℕ, ◌+◌, ◌-◌, ◌*◌, ◌/◌, ◌%◌, ◌^◌, ◌<◌, ◌&&◌, Bool, nat_le, if◌then◌else◌, List, ◌++◌, map, flat_map, length, replicate}
 use Rattle.std.specs.List.{range_with_len}
 use Rattle.byteorder.specs.Endian.{little_bytes}
 use Rattle.f2_bytes.specs.Bytes.{Block, bytes_at, number_at}
@@ -18,6 +18,12 @@ nat_entry_at b i = record { version = number_at b i 1; ino = number_at b (i + 1)
 -- the 9 bytes of an entry
 abbrev pub nat_entry_bytes : NatEntry → List ℕ
 nat_entry_bytes e = little_bytes 1 e.version ++ little_bytes 4 e.ino ++ little_bytes 4 e.address
+
+-- the numbers of an entry fit its 9 bytes
+pub record FitsNatEntry (e : NatEntry) : Type 0 where
+  pub version : e.version < 2 ^ 8
+  pub ino : e.ino < 2 ^ 32
+  pub address : e.address < 2 ^ 32
 
 -- a record of the journal of the node address table
 pub record NatRecord : Type 0 where
@@ -51,6 +57,12 @@ sit_entry_bytes e = little_bytes 2 (1024 * e.kind + e.count) ++ e.map ++ little_
 pub record FitsSitEntry (e : SitEntry) : Type 0 where
   pub kind : e.kind < 64
   pub count : e.count < 1024
+
+-- all of an entry fits its 74 bytes
+pub record FitsSitBytes (e : SitEntry) : Type 0 where
+  pub shared : FitsSitEntry e
+  pub map : length e.map ≡ 64
+  pub mtime : e.mtime < 2 ^ 64
 
 -- a record of the journal of the segment table
 pub record SitRecord : Type 0 where

@@ -4,5 +4,7 @@ pub mod Checkpoint
 pub mod Checksum
 pub mod Fields
 pub mod Journal
+pub mod NodeAddressTable
+pub mod SegmentTable
 pub mod Summary
 pub mod Superblock

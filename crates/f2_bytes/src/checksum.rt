@@ -5,7 +5,7 @@ ghost use Rattle.f2_bytes.specs.Checksum.{crc_after, is_sealed, with_seal};
 ghost use Rattle.f2_bytes.specs.Checksum.{crc as crc_of};
 
 use crate::fields::put_number;
-use byteorder::{ByteOrder, LittleEndian};
+use crate::u32_at;
 
 /// The value with which the checksums of superblock copies and checkpoint blocks begin: the magic number.
 pub const START: u32 = 0xF2F5_2010;
@@ -48,13 +48,6 @@ pub fn crc_of_front(bytes: &[u8], end: usize) -> u32
     crc(START, &bytes[..end])
 }
 
-fn word(b: &[u8], at: usize) -> u32
-    requires { at + 4 ≤ length b.now }
-    ensures { result ≡ number_at b.now at 4 }
-{
-    LittleEndian::read_u32(&b[at..at + 4])
-}
-
 /// Whether a block of 4096 bytes is sealed: it has the number 4092 at byte 164, and the checksum of the bytes before
 /// at byte 4092.
 #[tactic(auto, unfolding(crate::specs::Checksum::is_sealed))]
@@ -62,7 +55,7 @@ pub fn sealed(b: &[u8]) -> bool
     requires { length b.now ≡ 4096 }
     ensures { result ≡ is_sealed b.now }
 {
-    word(b, 164) == 4092 && word(b, 4092) == crc_of_front(b, 4092)
+    u32_at(b, 164) == 4092 && u32_at(b, 4092) == crc_of_front(b, 4092)
 }
 
 /// Seals a block of 4096 bytes: puts 4092 at byte 164 and then the checksum of the bytes before at byte 4092. No other

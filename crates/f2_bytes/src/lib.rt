@@ -11,6 +11,7 @@ mod checkpoint;
 mod checksum;
 mod fields;
 mod layout;
+mod readers;
 mod superblock;
 
 pub use bits::{bit_lsb, bit_msb, count_bits, set_bit_lsb, set_bit_msb};
@@ -18,6 +19,7 @@ pub use checkpoint::{CHECKPOINT, checkpoint_rows_lie_apart};
 pub use checksum::{crc, seal, sealed};
 pub use fields::{Field, FieldTable};
 pub use layout::Layout;
+pub use readers::{u8_at, u16_at, u32_at, u64_at};
 pub use superblock::{SUPER, passes, superblock_rows_lie_apart};
 use thiserror::Error;
 

@@ -5,7 +5,7 @@ ghost use Rattle.f2_bytes.specs.Bytes.{number_at};
 
 use crate::flags::CheckpointFlags;
 use bitflags::Flags;
-use f2_bytes::{CHECKPOINT, Field, FieldTable};
+use f2_bytes::CHECKPOINT;
 use f2_disk::Block;
 use std::marker::Model;
 
@@ -34,19 +34,6 @@ pub struct Log {
     pub offset: u16,
     /// Whether it reuses holes of the segment, instead of appending.
     pub reuse: bool,
-}
-
-// The number in the `width` bytes of a block from `at` on.
-pub(crate) fn number(b: &Block, at: usize, width: usize) -> u64
-    requires inside { at + width ≤ 4096 }
-    requires narrow { width ≤ 8 }
-    ensures value { result ≡ number_at b.now at width }
-    ensures fits { result < 256 ^ width }
-{
-    let table = FieldTable {
-        rows: [Field { offset: at, width }],
-    };
-    table.get(b.bytes(), 0)
 }
 
 impl Checkpoint {

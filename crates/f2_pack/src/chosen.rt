@@ -7,10 +7,9 @@ ghost use Rattle.f2_pack.specs.Logs.{log_of};
 ghost use Rattle.f2_sum.specs.Records.{summary_of};
 ghost use Rattle.f2_pack.specs.Held.{data_summary_in};
 
-use crate::checkpoint::number;
 use crate::{Checkpoint, Log};
 use f2_disk::Block;
-use f2_sum::{NatJournal, SitJournal, Summary, compact_spot, summary};
+use f2_sum::{NatJournal, SitJournal, Summary, compact_spot, summary, summary_at};
 use std::marker::Model;
 
 /// The pack that counts: its head, its journals, its orphans and the summaries of its logs.
@@ -33,18 +32,6 @@ impl Model for Chosen {
     ghost view = { λ c. held_of c.head c.pack (c.nat_journal, c.sit_journal) c.orphans.items c.data_summaries.items c.node_summaries.items };
 
     ghost invariant = { λ c. IsHeld (held_of c.head c.pack (c.nat_journal, c.sit_journal) c.orphans.items c.data_summaries.items c.node_summaries.items) };
-}
-
-// The summary in the 7 bytes of a block from `at` on.
-fn summary_from(b: &Block, at: usize) -> Summary
-    requires { at + 7 ≤ 4096 }
-    ensures { summary_of result ≡ summary_at b.now at }
-{
-    Summary {
-        nid: number(b, at, 4) as u32,
-        version: number(b, at + 4, 1) as u8,
-        ofs: number(b, at + 5, 2) as u16,
-    }
 }
 
 // Entry `k` of node log `t`, counted from 0.
@@ -87,7 +74,7 @@ fn compact_entry(head: &Checkpoint, summaries: &[Block], t: usize, k: usize) -> 
         return None;
     }
     let (block, at) = compact_spot(counts, t, k);
-    Some(summary_from(&summaries[block], at))
+    Some(summary_at(summaries[block].bytes(), at))
 }
 
 impl Chosen {

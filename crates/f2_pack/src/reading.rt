@@ -7,8 +7,8 @@ ghost use Rattle.f2_disk.specs.Disk.{State, Reads, Goes, Rose};
 ghost use Rattle.f2_pack.specs.Held.{nat_area_in, sit_area_in};
 ghost use Rattle.f2_pack.specs.Choice.{OnlyFails, journals_in};
 
-use crate::checkpoint::number;
 use crate::{Checkpoint, PackRefusal};
+use f2_bytes::u32_at;
 use f2_disk::{Block, Disk};
 use f2_sum::{NatJournal, SitJournal};
 use std::alloc::{AllocError, Global};
@@ -82,9 +82,10 @@ pub(crate) fn journals(
 fn push_orphans(orphans: &mut Vec<u32>, b: &Block) -> Result<(), AllocError>
     ensures { OnOk result (orphans.new.items ≡ orphans.old.items ++ orphans_in b.now) }
 {
-    let count = number(b, 4088, 4).min(1020) as usize;
+    let bytes = b.bytes();
+    let count = u32_at(bytes, 4088).min(1020) as usize;
     for k in 0..count {
-        orphans.push(number(b, 4 * k, 4) as u32)?;
+        orphans.push(u32_at(bytes, 4 * k))?;
     }
     Ok(())
 }

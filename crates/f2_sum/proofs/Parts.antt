@@ -24,3 +24,11 @@ with_bytes-three zeros a b c i j first second all =
     ∙ ap (λ l. with_bytes l j c) two
     ∙ three
     ∙ ap (λ l. a ++ b ++ c ++ l) none ∙ append-nil (a ++ b ++ c)
+
+-- two parts that fill all there is
+pub with_bytes-two : (zeros a b : List ℕ) (i : ℕ) → length a ≡ i → length zeros ≡ i + length b → with_bytes (with_bytes zeros 0 a) i b ≡ a ++ b
+with_bytes-two zeros a b i first all =
+    let one : with_bytes zeros 0 a ≡ a ++ drop (length a) zeros = with_bytes-next [] zeros a 0 refl in
+    let two : with_bytes (a ++ drop (length a) zeros) i b ≡ a ++ b ++ drop (length b) (drop (length a) zeros) = with_bytes-next a (drop (length a) zeros) b i first in
+    let none : drop (length b) (drop (length a) zeros) ≡ [] = drop_all (length b) (drop (length a) zeros) (simp (length-drop) (omega arith)) in
+    ap (λ l. with_bytes l i b) one ∙ two ∙ ap (λ l. a ++ b ++ l) none ∙ append-nil (a ++ b)

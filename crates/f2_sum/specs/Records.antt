@@ -1,14 +1,18 @@
 -- The records of the code as those of the format, and which numbers fit their bytes.
 use Rattle.std.specs.Prelude.{◌≡◌, ℕ, ◌^◌, ◌<◌, ◌≤◌, List, length, take, map, All}
 use Rattle.f2_bytes.specs.Summary.{Summary as FormatSummary}
-use Rattle.f2_bytes.specs.Journal.{NatRecord as FormatNatRecord, SitEntry as FormatSitEntry, SitRecord as FormatSitRecord, FitsSitEntry}
+use Rattle.f2_bytes.specs.Journal.{NatEntry as FormatNatEntry, NatRecord as FormatNatRecord, SitEntry as FormatSitEntry, SitRecord as FormatSitRecord, FitsNatEntry, FitsSitEntry, FitsSitBytes}
 use Rattle.f2_sum.specs.declared.records.Summary.{Summary}
+use Rattle.f2_sum.specs.declared.records.NatEntry.{NatEntry}
 use Rattle.f2_sum.specs.declared.records.NatRecord.{NatRecord}
 use Rattle.f2_sum.specs.declared.records.SitEntry.{SitEntry}
 use Rattle.f2_sum.specs.declared.records.SitRecord.{SitRecord}
 
 abbrev pub summary_of : Summary → FormatSummary
 summary_of s = record { nid = s.nid; version = s.version; place = s.ofs }
+
+abbrev pub nat_entry : NatEntry → FormatNatEntry
+nat_entry e = record { version = e.version; ino = e.ino; address = e.addr }
 
 abbrev pub nat_record : NatRecord → FormatNatRecord
 nat_record r = record { nid = r.nid; entry = record { version = r.version; ino = r.ino; address = r.addr } }
@@ -28,16 +32,12 @@ pub record FitsSummary (s : FormatSummary) : Type 0 where
 -- the numbers fit the 13 bytes of a record
 pub record FitsNatRecord (r : FormatNatRecord) : Type 0 where
   pub nid : r.nid < 2 ^ 32
-  pub version : r.entry.version < 2 ^ 8
-  pub ino : r.entry.ino < 2 ^ 32
-  pub address : r.entry.address < 2 ^ 32
+  pub entry : FitsNatEntry r.entry
 
 -- the numbers fit the 78 bytes of a record
 pub record FitsSitRecord (r : FormatSitRecord) : Type 0 where
   pub segment : r.segment < 2 ^ 32
-  pub entry : FitsSitEntry r.entry
-  pub map : length r.entry.map ≡ 64
-  pub mtime : r.entry.mtime < 2 ^ 64
+  pub entry : FitsSitBytes r.entry
 
 -- what the fields of a journal of the segment table are: an array of 6 records, of which the first n are in use and
 -- fit their bytes

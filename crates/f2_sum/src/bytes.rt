@@ -1,41 +1,9 @@
-// Numbers in bytes, the lowest byte first.
+// Bytes that are put one part after the other.
 ghost use Rattle.std.specs.Prelude.{◌≡◌, ◌≤◌, ◌+◌, ◌++◌, length, replicate};
 ghost use Rattle.byteorder.specs.Endian.{little_bytes};
-ghost use Rattle.f2_bytes.specs.Bytes.{number_at, with_bytes};
+ghost use Rattle.f2_bytes.specs.Bytes.{with_bytes};
 
 use byteorder::{ByteOrder, LittleEndian};
-
-// The number in the byte at `at`.
-pub(crate) fn byte(b: &[u8], at: usize) -> u8
-    requires { at + 1 ≤ length b.now }
-    ensures { result ≡ number_at b.now at 1 }
-{
-    b[at]
-}
-
-// The number in the two bytes from `at` on.
-pub(crate) fn half(b: &[u8], at: usize) -> u16
-    requires { at + 2 ≤ length b.now }
-    ensures { result ≡ number_at b.now at 2 }
-{
-    LittleEndian::read_u16(&b[at..at + 2])
-}
-
-// The number in the four bytes from `at` on.
-pub(crate) fn word(b: &[u8], at: usize) -> u32
-    requires { at + 4 ≤ length b.now }
-    ensures { result ≡ number_at b.now at 4 }
-{
-    LittleEndian::read_u32(&b[at..at + 4])
-}
-
-// The number in the eight bytes from `at` on.
-pub(crate) fn long(b: &[u8], at: usize) -> u64
-    requires { at + 8 ≤ length b.now }
-    ensures { result ≡ number_at b.now at 8 }
-{
-    LittleEndian::read_u64(&b[at..at + 8])
-}
 
 // Puts these bytes in place of as many from byte `at` on.
 pub(crate) fn put_bytes(b: &mut [u8], at: usize, bytes: &[u8])

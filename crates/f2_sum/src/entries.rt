@@ -6,7 +6,7 @@ ghost use Rattle.f2_bytes.specs.Summary.{summary_bytes as bytes_of_summary};
 ghost use Rattle.f2_sum.specs.Records.{summary_of};
 
 use crate::bytes::put_bytes;
-use crate::records::{Summary, read_summary, summary_bytes};
+use crate::records::{Summary, summary_at, summary_bytes};
 
 /// Entry `k` of a summary block of 4096 bytes, which has 512 entries.
 pub fn summary(b: &[u8], k: usize) -> Summary
@@ -14,7 +14,7 @@ pub fn summary(b: &[u8], k: usize) -> Summary
     requires entry { k < 512 }
     ensures { summary_of result ≡ summary_entry b.now k }
 {
-    read_summary(b, 7 * k)
+    summary_at(b, 7 * k)
 }
 
 /// Puts the summary into entry `k` of a summary block of 4096 bytes; only its 7 bytes change.

@@ -1,5 +1,5 @@
-//! The summary of a block of the main area, and the journals of the node address table and the segment table, as they
-//! stand in the summary blocks of a checkpoint pack. Nothing here takes memory.
+//! The summary of a block of the main area, the entries of the node address table and the segment table, and the
+//! journals of both as they stand in the summary blocks of a checkpoint pack. Nothing here takes memory.
 //!
 //! `f2_bytes` has the definitions of the format: `specs/Summary` and `specs/Journal`.
 #![tactic(auto)]
@@ -14,7 +14,10 @@ mod sit_journal;
 pub use compact::compact_spot;
 pub use entries::{put_summary, summary};
 pub use nat_journal::NatJournal;
-pub use records::{BadCount, NatRecord, SitEntry, SitRecord, Summary};
+pub use records::{
+    BadCount, NatEntry, NatRecord, SitEntry, SitRecord, Summary, nat_entry_at, nat_entry_bytes,
+    sit_entry_at, sit_entry_bytes, summary_at,
+};
 pub use sit_journal::SitJournal;
 
 #[cfg(test)]

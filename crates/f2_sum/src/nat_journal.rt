@@ -5,8 +5,9 @@ ghost use Rattle.std.specs.List.{range_with_len};
 ghost use Rattle.f2_bytes.specs.Journal.{nat_record_at, nat_records, nat_room, nat_area, journal_count};
 ghost use Rattle.f2_sum.specs.Records.{nat_record, FitsNatRecord};
 
-use crate::bytes::{half, put_bytes, start_area};
-use crate::records::{BadCount, NatRecord, nat_record_bytes, read_nat_record};
+use crate::bytes::{put_bytes, start_area};
+use crate::records::{BadCount, NatRecord, nat_record_at, nat_record_bytes};
+use f2_bytes::u16_at;
 use std::marker::Model;
 
 // How many records have room in a journal area.
@@ -49,7 +50,7 @@ fn read_records(area: &[u8], count: usize) -> [NatRecord; ROOM]
 {
     let mut records = [NO_RECORD; ROOM];
     for k in 0..count {
-        records[k] = read_nat_record(area, 2 + 13 * k);
+        records[k] = nat_record_at(area, 2 + 13 * k);
     }
     records
 }
@@ -85,7 +86,7 @@ impl NatJournal {
         ensures past { OnErr result (nat_room < journal_count area.now) }
         ensures count { IfErr result (λ bad. bad.0 ≡ journal_count area.now) }
     {
-        let count = half(area, 0);
+        let count = u16_at(area, 0);
         if usize::from(count) > ROOM {
             return Err(BadCount(count));
         }

@@ -1,14 +1,16 @@
 // The records of summaries and journals, and their bytes.
-ghost use Rattle.std.specs.Prelude.{◌≡◌, ◌≤◌, ◌+◌, ◌++◌, length};
+ghost use Rattle.std.specs.Prelude.{◌≡◌, ◌≤◌, ◌+◌, length};
 ghost use Rattle.byteorder.specs.Endian.{little_bytes};
 ghost use Rattle.f2_bytes.specs.Bytes.{bytes_at};
 ghost use Rattle.f2_bytes.specs.Summary.{summary_at, summary_bytes as bytes_of_summary};
-ghost use Rattle.f2_bytes.specs.Journal.{nat_record_at, sit_entry_at, sit_record_at, FitsSitEntry};
-ghost use Rattle.f2_bytes.specs.Journal.{nat_record_bytes as bytes_of_nat_record, sit_record_bytes as bytes_of_sit_record};
-ghost use Rattle.f2_sum.specs.Records.{summary_of, nat_record, sit_entry, sit_record, FitsSummary, FitsNatRecord, FitsSitRecord};
+ghost use Rattle.f2_bytes.specs.Journal.{nat_entry_at, nat_record_at, FitsNatEntry, sit_entry_at, sit_record_at, FitsSitEntry, FitsSitBytes};
+ghost use Rattle.f2_bytes.specs.Journal.{nat_entry_bytes as bytes_of_nat_entry, nat_record_bytes as bytes_of_nat_record};
+ghost use Rattle.f2_bytes.specs.Journal.{sit_entry_bytes as bytes_of_sit_entry, sit_record_bytes as bytes_of_sit_record};
+ghost use Rattle.f2_sum.specs.Records.{summary_of, nat_entry, nat_record, sit_entry, sit_record, FitsSummary, FitsNatRecord, FitsSitRecord};
 
-use crate::bytes::{byte, half, long, put_bytes, word};
+use crate::bytes::put_bytes;
 use byteorder::{ByteOrder, LittleEndian};
+use f2_bytes::{u8_at, u16_at, u32_at, u64_at};
 
 /// What a block of the main area holds: which node it belongs to, and its place there.
 #[derive(Clone, Copy, Debug, PartialEq, Eq)]
@@ -19,6 +21,17 @@ pub struct Summary {
     pub version: u8,
     /// The place of the block in that node.
     pub ofs: u16,
+}
+
+/// An entry of the node address table.
+#[derive(Clone, Copy, Debug, PartialEq, Eq)]
+pub struct NatEntry {
+    /// How often the node's number was given out anew.
+    pub version: u8,
+    /// The inode to which the node belongs.
+    pub ino: u32,
+    /// The block where the node stands, or 0.
+    pub addr: u32,
 }
 
 /// A record of the journal of the node address table.
@@ -60,15 +73,15 @@ pub struct SitRecord {
 #[derive(Clone, Copy, Debug, PartialEq, Eq)]
 pub struct BadCount(pub u16);
 
-// The summary in the 7 bytes from `at` on.
-pub(crate) fn read_summary(b: &[u8], at: usize) -> Summary
+/// The summary in the 7 bytes from `at` on.
+pub fn summary_at(b: &[u8], at: usize) -> Summary
     requires { at + 7 ≤ length b.now }
     ensures { summary_of result ≡ summary_at b.now at }
 {
     Summary {
-        nid: word(b, at),
-        version: byte(b, at + 4),
-        ofs: half(b, at + 5),
+        nid: u32_at(b, at),
+        version: u8_at(b, at + 4),
+        ofs: u16_at(b, at + 5),
     }
 }
 
@@ -84,17 +97,41 @@ pub(crate) fn summary_bytes(s: Summary) -> [u8; 7]
     bytes
 }
 
+/// The entry of the node address table in the 9 bytes from `at` on.
+pub fn nat_entry_at(b: &[u8], at: usize) -> NatEntry
+    requires { at + 9 ≤ length b.now }
+    ensures { nat_entry result ≡ nat_entry_at b.now at }
+{
+    NatEntry {
+        version: u8_at(b, at),
+        ino: u32_at(b, at + 1),
+        addr: u32_at(b, at + 5),
+    }
+}
+
+/// The 9 bytes of an entry of the node address table.
+pub fn nat_entry_bytes(e: NatEntry) -> [u8; 9]
+    ensures bytes { result ≡ bytes_of_nat_entry (nat_entry e) }
+    ensures fits { FitsNatEntry (nat_entry e) }
+{
+    let mut bytes = [0; 9];
+    bytes[0] = e.version;
+    LittleEndian::write_u32(&mut bytes[1..5], e.ino);
+    LittleEndian::write_u32(&mut bytes[5..9], e.addr);
+    bytes
+}
+
 // The record in the 13 bytes from `at` on.
-pub(crate) fn read_nat_record(b: &[u8], at: usize) -> NatRecord
+pub(crate) fn nat_record_at(b: &[u8], at: usize) -> NatRecord
     requires { at + 13 ≤ length b.now }
     ensures { nat_record result ≡ nat_record_at b.now at }
 {
-    let entry = at + 4;
+    let entry = nat_entry_at(b, at + 4);
     NatRecord {
-        nid: word(b, at),
-        version: byte(b, entry),
-        ino: word(b, entry + 1),
-        addr: word(b, entry + 5),
+        nid: u32_at(b, at),
+        version: entry.version,
+        ino: entry.ino,
+        addr: entry.addr,
     }
 }
 
@@ -121,31 +158,37 @@ fn read_map(b: &[u8], at: usize) -> [u8; 64]
     map
 }
 
-// The entry in the 74 bytes from `at` on.
-fn read_sit_entry(b: &[u8], at: usize) -> SitEntry
+/// The entry of the segment table in the 74 bytes from `at` on.
+pub fn sit_entry_at(b: &[u8], at: usize) -> SitEntry
     requires { at + 74 ≤ length b.now }
     ensures bytes { sit_entry result ≡ sit_entry_at b.now at }
     ensures fits { FitsSitEntry (sit_entry result) }
 {
-    let blocks = half(b, at);
+    let blocks = u16_at(b, at);
     SitEntry {
         kind: (blocks / 1024) as u8,
         count: blocks % 1024,
         map: read_map(b, at + 2),
-        mtime: long(b, at + 66),
+        mtime: u64_at(b, at + 66),
     }
 }
 
-// The record in the 78 bytes from `at` on.
-pub(crate) fn read_sit_record(b: &[u8], at: usize) -> SitRecord
-    requires { at + 78 ≤ length b.now }
-    ensures bytes { sit_record result ≡ sit_record_at b.now at }
-    ensures fits { FitsSitEntry (sit_entry result.entry) }
+// The bytes of a number of two bytes.
+fn half_bytes(v: u16) -> [u8; 2]
+    ensures { result ≡ little_bytes 2 v }
 {
-    SitRecord {
-        segno: word(b, at),
-        entry: read_sit_entry(b, at + 4),
-    }
+    let mut bytes = [0; 2];
+    LittleEndian::write_u16(&mut bytes[0..2], v);
+    bytes
+}
+
+// The bytes of a number of four bytes.
+fn word_bytes(v: u32) -> [u8; 4]
+    ensures { result ≡ little_bytes 4 v }
+{
+    let mut bytes = [0; 4];
+    LittleEndian::write_u32(&mut bytes[0..4], v);
+    bytes
 }
 
 // The bytes of a number of eight bytes.
@@ -157,14 +200,30 @@ fn long_bytes(v: u64) -> [u8; 8]
     bytes
 }
 
-// The 6 bytes with which a record begins: its segment, and the type and the count of its entry.
-fn sit_record_start(segno: u32, blocks: u16) -> [u8; 6]
-    ensures { result ≡ little_bytes 4 segno ++ little_bytes 2 blocks }
+/// The 74 bytes of an entry of the segment table, whose kind is below 64 and whose count is below 1024.
+pub fn sit_entry_bytes(e: SitEntry) -> [u8; 74]
+    requires { FitsSitEntry (sit_entry e) }
+    ensures bytes { result ≡ bytes_of_sit_entry (sit_entry e) }
+    ensures fits { FitsSitBytes (sit_entry e) }
 {
-    let mut bytes = [0; 6];
-    LittleEndian::write_u32(&mut bytes[0..4], segno);
-    LittleEndian::write_u16(&mut bytes[4..6], blocks);
+    let blocks = 1024 * u16::from(e.kind) + e.count;
+    let mut bytes = [0; 74];
+    put_bytes(&mut bytes, 0, &half_bytes(blocks));
+    put_bytes(&mut bytes, 2, &e.map);
+    put_bytes(&mut bytes, 66, &long_bytes(e.mtime));
     bytes
+}
+
+// The record in the 78 bytes from `at` on.
+pub(crate) fn sit_record_at(b: &[u8], at: usize) -> SitRecord
+    requires { at + 78 ≤ length b.now }
+    ensures bytes { sit_record result ≡ sit_record_at b.now at }
+    ensures fits { FitsSitEntry (sit_entry result.entry) }
+{
+    SitRecord {
+        segno: u32_at(b, at),
+        entry: sit_entry_at(b, at + 4),
+    }
 }
 
 // The 78 bytes of a record.
@@ -173,10 +232,8 @@ pub(crate) fn sit_record_bytes(r: SitRecord) -> [u8; 78]
     ensures bytes { result ≡ bytes_of_sit_record (sit_record r) }
     ensures fits { FitsSitRecord (sit_record r) }
 {
-    let blocks = 1024 * u16::from(r.entry.kind) + r.entry.count;
     let mut bytes = [0; 78];
-    put_bytes(&mut bytes, 0, &sit_record_start(r.segno, blocks));
-    put_bytes(&mut bytes, 6, &r.entry.map);
-    put_bytes(&mut bytes, 70, &long_bytes(r.entry.mtime));
+    put_bytes(&mut bytes, 0, &word_bytes(r.segno));
+    put_bytes(&mut bytes, 4, &sit_entry_bytes(r.entry));
     bytes
 }

@@ -5,8 +5,9 @@ ghost use Rattle.std.specs.List.{range_with_len};
 ghost use Rattle.f2_bytes.specs.Journal.{sit_record_at, sit_records, sit_room, sit_area, journal_count, FitsSitEntry};
 ghost use Rattle.f2_sum.specs.Records.{sit_entry, sit_record, FitsSitRecord};
 
-use crate::bytes::{half, put_bytes, start_area};
-use crate::records::{BadCount, SitEntry, SitRecord, read_sit_record, sit_record_bytes};
+use crate::bytes::{put_bytes, start_area};
+use crate::records::{BadCount, SitEntry, SitRecord, sit_record_at, sit_record_bytes};
+use f2_bytes::u16_at;
 use std::marker::Model;
 
 // How many records have room in a journal area.
@@ -53,7 +54,7 @@ fn read_records(area: &[u8], count: usize) -> [SitRecord; ROOM]
 {
     let mut records = [NO_RECORD; ROOM];
     for k in 0..count {
-        records[k] = read_sit_record(area, 2 + 78 * k);
+        records[k] = sit_record_at(area, 2 + 78 * k);
     }
     records
 }
@@ -90,7 +91,7 @@ impl SitJournal {
         ensures past { OnErr result (sit_room < journal_count area.now) }
         ensures count { IfErr result (λ bad. bad.0 ≡ journal_count area.now) }
     {
-        let count = half(area, 0);
+        let count = u16_at(area, 0);
         if usize::from(count) > ROOM {
             return Err(BadCount(count));
         }

@@ -10,7 +10,8 @@ loop-k-preserved c =
     let k = c.loop-k.k in
     let before = c.args.orphans.now.items in
     let more : map (word b) (range_with_len 0 (k + 1)) ≡ map (word b) (range_with_len 0 k) ++ word b k ∷ [] = map-range_with_len_more (word b) 0 k k (omega arith) in
+    let number = c.u32_at-in-loop-k.ensures ∙ ap (λ l. word l k) c.bytes-bytes.ensures.same in
     c.in_ok-push.ensures.items
-    ∙ (λ i. c.loop-k.invariant i ++ c.number-in-loop-k.ensures.value i ∷ [])
+    ∙ (λ i. c.loop-k.invariant i ++ number i ∷ [])
     ∙ append_assoc before (map (word b) (range_with_len 0 k)) (word b k ∷ [])
     ∙ ap (λ l. before ++ l) (sym more)

@@ -1,6 +1,6 @@
 use Rattle.std.proofs.Common.{◌∙◌}
 use Rattle.f2_bytes.proofs.Numbers.{number_at-read}
-use Rattle.f2_sum.proofs.bytes.word.Goals as goal
+use Rattle.f2_bytes.proofs.readers.u32_at.Goals as goal
 
 pub returns : goal.returns
 returns c = c.read_u32.ensures ∙ number_at-read c.args.b.now c.args.at 4

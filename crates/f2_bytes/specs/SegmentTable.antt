@@ -1,0 +1,36 @@
+-- The segment table: for each main segment the type of its blocks, and which of them are valid.
+use Rattle.std.specs.Prelude.{ℕ, ◌+◌, ◌*◌, ◌/◌, ◌%◌, ◌==◌, if◌then◌else◌, List, find, Option, option_map, unwrap_or}
+use Rattle.f2_bytes.specs.declared.layout.Layout.{Layout}
+use Rattle.f2_bytes.specs.Bytes.{Block, Image, block_at}
+use Rattle.f2_bytes.specs.Bits.{bit_msb}
+use Rattle.f2_bytes.specs.Superblock.{layout}
+use Rattle.f2_bytes.specs.Checkpoint.{sit_bits, head, pack}
+use Rattle.f2_bytes.specs.Journal.{SitEntry, SitRecord, sit_entry_at, sit_records, sit_journal_area}
+
+-- where block k of the table stands: the copies follow each other, and the bitmap says which one is in use
+abbrev pub sit_block_address : Layout → List ℕ → ℕ → ℕ
+sit_block_address l bits k = l.sit + k + (if bit_msb bits k then l.sit_half else 0)
+
+-- the entry of a segment in its block of the table, which has 55
+abbrev pub sit_entry_in : Block → ℕ → SitEntry
+sit_entry_in b segment = sit_entry_at b (74 * (segment % 55))
+
+-- the entry of a segment in the copy that is in use
+abbrev pub sit_table_entry : Layout → List ℕ → Image → ℕ → SitEntry
+sit_table_entry l bits image segment = sit_entry_in (block_at image (sit_block_address l bits (segment / 55))) segment
+
+-- the entry of a segment in a journal, if any: that of its first record
+unfoldable pub sit_journal_entry : List SitRecord → ℕ → Option SitEntry
+sit_journal_entry journal segment = option_map (λ r. r.entry) (find (λ r. r.segment == segment) journal)
+
+-- the entry of a segment: the journal goes before the table
+unfoldable pub sit_entry : Layout → List ℕ → List SitRecord → Image → ℕ → SitEntry
+sit_entry l bits journal image segment = unwrap_or (sit_journal_entry journal segment) (sit_table_entry l bits image segment)
+
+-- the journal of an image
+abbrev pub sit_journal : Image → List SitRecord
+sit_journal image = sit_records (sit_journal_area (pack image))
+
+-- the segment table of an image
+unfoldable pub sit : Image → ℕ → SitEntry
+sit image segment = sit_entry (layout image) (sit_bits (head image)) (sit_journal image) image segment
