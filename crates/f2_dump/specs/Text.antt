@@ -1,42 +1,77 @@
--- The lines of a dump.
-use Rattle.std.specs.Prelude.{ℕ, List, [], ◌∷◌, ◌++◌, flat_map, codes, decimal, get_or, length}
-use Rattle.f2_bytes.specs.declared.fields.Field.{Field}
-use Rattle.f2_bytes.specs.Bytes.{numbers_below}
-use Rattle.f2_bytes.specs.Checkpoint.{checkpoint_rows}
-use Rattle.f2_bytes.specs.Fields.{field_at}
-use Rattle.f2_view.specs.Mounted.{Mounted}
+-- The lines of a dump, and the numbers for which there is none.
+use Rattle.std.specs.Prelude.{ℕ, ◌+◌, ◌-◌, ◌*◌, ◌/◌, ◌%◌, ◌||◌, nat_le, nat_lt, if◌then◌else◌, List, [], ◌∷◌, ◌++◌, flat_map, codes, decimal, Option, Some, None}
+use Rattle.std.specs.List.{range_with_len}
+use Rattle.f2_bytes.specs.declared.layout.Layout.{Layout}
+use Rattle.f2_bytes.specs.Bytes.{Block, Image, block_at, bytes_at, numbers_below}
+use Rattle.f2_bytes.specs.Checkpoint.{checkpoint_rows, head}
+use Rattle.f2_bytes.specs.Journal.{NatEntry, SitEntry}
+use Rattle.f2_bytes.specs.NodeAddressTable.{nat, nid_limit}
+use Rattle.f2_bytes.specs.SegmentTable.{sit}
+use Rattle.f2_bytes.specs.Superblock.{layout}
+use Rattle.f2_dump.specs.Fields.{field_lines, checkpoint_names}
 use Rattle.f2_dump.specs.declared.dumping.What.{What}
-use Rattle.f2_dump.specs.declared.dumping.What.TheVariants.{Cp}
+use Rattle.f2_dump.specs.declared.dumping.What.TheVariants.{Cp, Nat, Sit, Raw}
 
--- the line of a field: its name and its number
-abbrev pub field_line : List ℕ → ℕ → List ℕ
-field_line name number = name ++ codes " " ++ decimal number ++ codes "\n"
+-- a hexadecimal digit, in lower case, and the two of a byte
+abbrev pub hex_digit : ℕ → ℕ
+hex_digit n = if nat_lt n 10 then 48 + n else 87 + n
 
--- the lines of a record's fields with these names and places
-abbrev pub field_lines : List (List ℕ) → List Field → List ℕ → List ℕ
-field_lines names rows b = flat_map (λ k. field_line (get_or names k []) (field_at rows b k)) (numbers_below (length names))
+abbrev pub hex_byte : ℕ → List ℕ
+hex_byte b = hex_digit (b / 16) ∷ hex_digit (b % 16) ∷ []
 
--- the names of a checkpoint's fields
-abbrev pub checkpoint_names : List (List ℕ)
-checkpoint_names =
-    codes "checkpoint_ver" ∷ codes "user_block_count" ∷ codes "valid_block_count" ∷ codes "rsvd_segment_count" ∷ codes "overprov_segment_count"
-    ∷ codes "free_segment_count" ∷ codes "cur_node_segno[0]" ∷ codes "cur_node_segno[1]" ∷ codes "cur_node_segno[2]" ∷ codes "cur_node_segno[3]"
-    ∷ codes "cur_node_segno[4]" ∷ codes "cur_node_segno[5]" ∷ codes "cur_node_segno[6]" ∷ codes "cur_node_segno[7]" ∷ codes "cur_node_blkoff[0]"
-    ∷ codes "cur_node_blkoff[1]" ∷ codes "cur_node_blkoff[2]" ∷ codes "cur_node_blkoff[3]" ∷ codes "cur_node_blkoff[4]" ∷ codes "cur_node_blkoff[5]"
-    ∷ codes "cur_node_blkoff[6]" ∷ codes "cur_node_blkoff[7]" ∷ codes "cur_data_segno[0]" ∷ codes "cur_data_segno[1]" ∷ codes "cur_data_segno[2]"
-    ∷ codes "cur_data_segno[3]" ∷ codes "cur_data_segno[4]" ∷ codes "cur_data_segno[5]" ∷ codes "cur_data_segno[6]" ∷ codes "cur_data_segno[7]"
-    ∷ codes "cur_data_blkoff[0]" ∷ codes "cur_data_blkoff[1]" ∷ codes "cur_data_blkoff[2]" ∷ codes "cur_data_blkoff[3]" ∷ codes "cur_data_blkoff[4]"
-    ∷ codes "cur_data_blkoff[5]" ∷ codes "cur_data_blkoff[6]" ∷ codes "cur_data_blkoff[7]" ∷ codes "ckpt_flags" ∷ codes "cp_pack_total_block_count"
-    ∷ codes "cp_pack_start_sum" ∷ codes "valid_node_count" ∷ codes "valid_inode_count" ∷ codes "next_free_nid" ∷ codes "sit_ver_bitmap_bytesize"
-    ∷ codes "nat_ver_bitmap_bytesize" ∷ codes "checksum_offset" ∷ codes "elapsed_time" ∷ codes "alloc_type[0]" ∷ codes "alloc_type[1]"
-    ∷ codes "alloc_type[2]" ∷ codes "alloc_type[3]" ∷ codes "alloc_type[4]" ∷ codes "alloc_type[5]" ∷ codes "alloc_type[6]"
-    ∷ codes "alloc_type[7]" ∷ codes "alloc_type[8]" ∷ codes "alloc_type[9]" ∷ codes "alloc_type[10]" ∷ codes "alloc_type[11]"
-    ∷ codes "alloc_type[12]" ∷ codes "alloc_type[13]" ∷ codes "alloc_type[14]" ∷ codes "alloc_type[15]" ∷ codes "checksum" ∷ []
+-- the digits of bytes, in their order
+abbrev pub hex_bytes : List ℕ → List ℕ
+hex_bytes bytes = flat_map hex_byte bytes
 
--- the lines of a mount's checkpoint
-abbrev pub checkpoint_lines : Mounted → List ℕ
-checkpoint_lines m = field_lines checkpoint_names checkpoint_rows m.chosen.head
+-- the number that lies outside of the numbers below a limit: the first of a range, where it does so or lies above the
+-- last, or else the last; a range without a last goes up to the limit
+abbrev pub outside_of : ℕ → ℕ → Option ℕ → Option ℕ
+outside_of limit first None = if nat_le limit first then Some first else None
+outside_of limit first (Some last) = if nat_le limit first || nat_lt last first then Some first else (if nat_le limit last then Some last else None)
 
--- the lines of what is dumped of a mount
-abbrev pub dump_lines : Mounted → What → List ℕ
-dump_lines m Cp = checkpoint_lines m
+-- what lies outside, for what is dumped of an image with this layout
+abbrev pub outside : Layout → What → Option ℕ
+outside l Cp = None
+outside l (Nat first last) = outside_of (nid_limit l) first last
+outside l (Sit first last) = outside_of l.segments first last
+outside l (Raw address) = outside_of l.blocks address None
+
+-- the numbers of a range, in order
+abbrev pub numbers_of : ℕ → ℕ → Option ℕ → List ℕ
+numbers_of limit first None = range_with_len first (limit - first)
+numbers_of limit first (Some last) = range_with_len first (last + 1 - first)
+
+-- the line of a node: its number, its inode, its address and its version; there is none for another number
+abbrev pub nat_line : ℕ → Option NatEntry → List ℕ
+nat_line nid None = []
+nat_line nid (Some e) = decimal nid ++ codes " " ++ decimal e.ino ++ codes " " ++ decimal e.address ++ codes " " ++ decimal e.version ++ codes "\n"
+
+-- the line of a segment: its number, its type, its count of valid blocks, its time, and its map
+abbrev pub sit_line : ℕ → SitEntry → List ℕ
+sit_line segment e =
+    decimal segment ++ codes " " ++ decimal e.kind ++ codes " " ++ decimal e.count ++ codes " " ++ decimal e.mtime ++ codes " " ++ hex_bytes e.map ++ codes "\n"
+
+-- the line of the 16 bytes from byte 16 k on of a block: the number of that byte in three digits, and the bytes
+abbrev pub row_line : Block → ℕ → List ℕ
+row_line b k = hex_digit (k / 16) ∷ hex_digit (k % 16) ∷ codes "0: " ++ hex_bytes (bytes_at b (16 * k) 16) ++ codes "\n"
+
+-- the lines of the checkpoint that counts
+abbrev pub checkpoint_lines : Image → List ℕ
+checkpoint_lines image = field_lines checkpoint_names checkpoint_rows (head image)
+
+-- the lines of the nodes of a range, of its segments, and of a block
+unfoldable pub nat_lines : Image → ℕ → Option ℕ → List ℕ
+nat_lines image first last = flat_map (λ nid. nat_line nid (nat image nid)) (numbers_of (nid_limit (layout image)) first last)
+
+unfoldable pub sit_lines : Image → ℕ → Option ℕ → List ℕ
+sit_lines image first last = flat_map (λ segment. sit_line segment (sit image segment)) (numbers_of (layout image).segments first last)
+
+unfoldable pub block_lines : Block → List ℕ
+block_lines b = flat_map (row_line b) (numbers_below 256)
+
+-- the lines of what is dumped of an image
+abbrev pub dump_lines : Image → What → List ℕ
+dump_lines image Cp = checkpoint_lines image
+dump_lines image (Nat first last) = nat_lines image first last
+dump_lines image (Sit first last) = sit_lines image first last
+dump_lines image (Raw address) = block_lines (block_at image address)

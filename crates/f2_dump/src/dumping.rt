@@ -1,11 +1,16 @@
 // What is dumped of a mounted image.
-ghost use Rattle.std.specs.Prelude.{◌≡◌, IfOk, IsErrOf};
+ghost use Rattle.std.specs.Prelude.{◌≡◌, ◌≤◌, Some, IfOk, IsErrOf};
+ghost use Rattle.f2_bytes.specs.Bytes.{Image};
+ghost use Rattle.f2_bytes.specs.Checkpoint.{checkpoint_rows};
 ghost use Rattle.f2_disk.specs.Disk.{Reads, Goes, Rose};
-ghost use Rattle.f2_dump.specs.Text.{checkpoint_lines, dump_lines};
-ghost use Rattle.f2_dump.specs.Dump.{Dumps};
+ghost use Rattle.f2_view.specs.Mounted.{IsMountOf, layout_in};
+ghost use Rattle.f2_dump.specs.Fields.{field_lines, checkpoint_names};
+ghost use Rattle.f2_dump.specs.Text.{dump_lines, outside as is_outside};
+ghost use Rattle.f2_dump.specs.Dump.{Dumps, Refuses, Sinks, OnlySink};
 
 use crate::lines::push_fields;
 use crate::names::CHECKPOINT_NAMES;
+use crate::ranges::outside;
 use f2_bytes::CHECKPOINT;
 use f2_disk::{Disk, Sink};
 use f2_view::Mount;
@@ -17,6 +22,12 @@ use thiserror::Error;
 pub enum What {
     /// The fields of the checkpoint that counts, a line each.
     Cp,
+    /// The nodes among the nids of a range, a line each: from the first up to the last, or up to the greatest one.
+    Nat(u64, Option<u64>),
+    /// The entries of the main segments of a range, likewise.
+    Sit(u64, Option<u64>),
+    /// The bytes of the block at this address.
+    Raw(u64),
 }
 
 /// Why a dump ended early.
@@ -31,11 +42,14 @@ pub enum DumpRefusal {
     /// No memory is left.
     #[error("no memory is left")]
     NoMemory,
+    /// This number lies outside of the range of what is dumped: nothing was put.
+    #[error("{0} is out of range")]
+    OutOfRange(u64),
 }
 
 // The lines of the checkpoint that counts.
 fn checkpoint_text(alloc: Global, m: &Mount) -> Result<Vec<u8>, AllocError>
-    ensures { IfOk result (λ text. text.items ≡ checkpoint_lines m.now) }
+    ensures { IfOk result (λ text. text.items ≡ field_lines checkpoint_names checkpoint_rows m.now.chosen.head) }
 {
     let mut text = Vec::new(alloc);
     let head = m.chosen().head().block();
@@ -45,8 +59,9 @@ fn checkpoint_text(alloc: Global, m: &Mount) -> Result<Vec<u8>, AllocError>
 
 // Puts a text.
 fn put_text<O: Sink>(o: &mut O, text: &[u8]) -> Result<(), DumpRefusal>
-    ensures text { Dumps text.now (O.told o.old) (O.told o.new) (O.faults o.old) (O.faults o.new) result }
-    ensures no_fault { IsErrOf result DumpRefusal.DiskFault → ⊥ }
+    ensures text { Dumps text.now (O.told o.old) (O.told o.new) result }
+    ensures sink { Sinks (O.faults o.old) (O.faults o.new) result }
+    ensures only { OnlySink result }
 {
     match o.put(text) {
         Ok(()) => Ok(()),
@@ -54,24 +69,46 @@ fn put_text<O: Sink>(o: &mut O, text: &[u8]) -> Result<(), DumpRefusal>
     }
 }
 
-/// Puts the lines of what is dumped, gathered into as few puts as need be. It writes nothing to the disk.
+// Puts the lines of the checkpoint that counts.
+fn dump_checkpoint<O: Sink>(alloc: Global, m: &Mount, o: &mut O) -> Result<(), DumpRefusal>
+    ensures lines { Dumps (field_lines checkpoint_names checkpoint_rows m.now.chosen.head) (O.told o.old) (O.told o.new) result }
+    ensures sink { Sinks (O.faults o.old) (O.faults o.new) result }
+    ensures only { OnlySink result }
+{
+    match checkpoint_text(alloc, m) {
+        Ok(text) => put_text(o, &text),
+        Err(_) => Err(DumpRefusal::NoMemory),
+    }
+}
+
+/// Puts the lines of what is dumped, in pieces of at most 64 KiB. It writes nothing to the disk.
+///
+/// `OutOfRange` names the number that lies outside: of a range the first one where it is at or past the limit or above
+/// the last, else the last one where it is at or past the limit.
 pub fn dump<D: Disk, O: Sink>(
     alloc: Global,
     m: &mut Mount,
     what: What,
-    _d: &mut D,
+    d: &mut D,
     o: &mut O,
 ) -> Result<(), DumpRefusal>
-    ensures lines { Dumps (dump_lines m.old what) (O.told o.old) (O.told o.new) (O.faults o.old) (O.faults o.new) result }
+    requires lies { (layout_in m.old).blocks ≤ (D.state d.old).size }
+    ensures lines { (image : Image) → (D.state d.old).told ≡ Some image → IsMountOf image m.old
+        → Dumps (dump_lines image what) (O.told o.old) (O.told o.new) result }
+    ensures range { Refuses (is_outside (layout_in m.old) what) (O.told o.old) (O.told o.new) result }
+    ensures sink { Sinks (O.faults o.old) (O.faults o.new) result }
     ensures mount { m.new ≡ m.old }
-    ensures reads { Reads (D.state _d.old) (D.state _d.new) }
-    ensures goes { Goes (D.state _d.old) (D.state _d.new) }
-    ensures fault { IsErrOf result DumpRefusal.DiskFault → Rose (D.state _d.old).faults (D.state _d.new).faults }
+    ensures reads { Reads (D.state d.old) (D.state d.new) }
+    ensures goes { Goes (D.state d.old) (D.state d.new) }
+    ensures fault { IsErrOf result DumpRefusal.DiskFault → Rose (D.state d.old).faults (D.state d.new).faults }
 {
+    if let Some(number) = outside(&m.layout(), what) {
+        return Err(DumpRefusal::OutOfRange(number));
+    }
     match what {
-        What::Cp => match checkpoint_text(alloc, m) {
-            Ok(text) => put_text(o, &text),
-            Err(_) => Err(DumpRefusal::NoMemory),
-        },
+        What::Cp => dump_checkpoint(alloc, m, o),
+        What::Nat(_, _) => Err(DumpRefusal::NoMemory),
+        What::Sit(_, _) => Err(DumpRefusal::NoMemory),
+        What::Raw(_) => Err(DumpRefusal::NoMemory),
     }
 }

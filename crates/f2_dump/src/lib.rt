@@ -4,6 +4,7 @@
 mod dumping;
 mod lines;
 mod names;
+mod ranges;
 
 pub use dumping::{DumpRefusal, What, dump};
 pub use names::checkpoint_names_are_known;

@@ -2,7 +2,7 @@
 ghost use Rattle.std.specs.Prelude.{◌≡◌, ◌++◌, ◌&&◌, nat_le, length, map, IsTrue, OnOk};
 ghost use Rattle.std.specs.List.{list_all};
 ghost use Rattle.f2_bytes.specs.Fields.{lies_in};
-ghost use Rattle.f2_dump.specs.Text.{field_line, field_lines};
+ghost use Rattle.f2_dump.specs.Fields.{field_line, field_lines};
 
 use f2_bytes::FieldTable;
 use f2_disk::Block;

@@ -1,6 +1,6 @@
 // The names of a record's fields.
 ghost use Rattle.std.specs.Prelude.{◌≡◌, map};
-ghost use Rattle.f2_dump.specs.Text.{checkpoint_names};
+ghost use Rattle.f2_dump.specs.Fields.{checkpoint_names};
 
 /// The names of the fields of a checkpoint, in the order of `f2_bytes::CHECKPOINT`.
 pub const CHECKPOINT_NAMES: [&str; 65] = [

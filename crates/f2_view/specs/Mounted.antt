@@ -1,10 +1,12 @@
 -- What a mount keeps of an image.
-use Rattle.std.specs.Prelude.{ℕ, ◌^◌, ◌<◌, ◌≤◌}
-use Rattle.f2_bytes.specs.Superblock.{layout_of, IsInOrder}
-use Rattle.f2_bytes.specs.Checkpoint.{checkpoint_ver}
+use Rattle.std.specs.Prelude.{◌≡◌, ℕ, ◌^◌, ◌<◌, ◌≤◌, true, Some}
+use Rattle.f2_bytes.specs.declared.layout.Layout.{Layout}
+use Rattle.f2_bytes.specs.Bytes.{Image}
+use Rattle.f2_bytes.specs.Superblock.{layout_of, IsInOrder, super_copy, super_bytes, has_twins}
+use Rattle.f2_bytes.specs.Checkpoint.{checkpoint_ver, pack, pack_number, has_checkpoint}
 use Rattle.f2_super.specs.declared.loading.Found.{Found}
 use Rattle.f2_super.specs.Load.{IsSound}
-use Rattle.f2_pack.specs.Held.{Held}
+use Rattle.f2_pack.specs.Held.{Held, chosen_of}
 use Rattle.f2_pack.specs.Choice.{IsChosen}
 
 -- the superblock that counts, and the checkpoint pack that counts
@@ -12,10 +14,26 @@ pub record Mounted : Type 0 where
   pub found : Found
   pub chosen : Held
 
--- what is known of a mount on every disk of this many blocks
+-- where the areas of a mounted image lie
+abbrev pub layout_in : Mounted → Layout
+layout_in m = layout_of m.found.sup
+
+-- the mount is of this image: what it keeps is what the image says
+pub record IsMountOf (image : Image) (m : Mounted) : Type 0 where
+  pub copy : super_copy image ≡ Some m.found.copy
+  pub sup : m.found.sup ≡ super_bytes image
+  pub twin : m.found.twin ≡ has_twins image
+  pub checkpoint : has_checkpoint image ≡ true
+  pub chosen : m.chosen ≡ chosen_of (pack image) (pack_number image)
+
+-- what is known of a mount whatever the disk
+pub record IsKept (m : Mounted) : Type 0 where
+  pub in_order : IsInOrder (layout_in m)
+  pub chosen : IsChosen (layout_in m) m.chosen
+  pub version : checkpoint_ver m.chosen.head < 2 ^ 62
+
+-- and on a disk of this many blocks
 pub record IsMounted (size : ℕ) (m : Mounted) : Type 0 where
   pub sound : IsSound size m.found
-  pub in_order : IsInOrder (layout_of m.found.sup)
-  pub inside : (layout_of m.found.sup).blocks ≤ size
-  pub chosen : IsChosen (layout_of m.found.sup) m.chosen
-  pub version : checkpoint_ver m.chosen.head < 2 ^ 62
+  pub inside : (layout_in m).blocks ≤ size
+  pub kept : IsKept m

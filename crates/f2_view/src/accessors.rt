@@ -12,29 +12,34 @@ pub struct Mount {
 }
 
 impl Model for Mount {
-    ghost use Rattle.f2_view.specs.Mounted.{Mounted};
+    ghost use Rattle.f2_view.specs.Mounted.{Mounted, IsKept};
 
     ghost Value = { Mounted };
 
     ghost view = { λ m. record { found = m.found; chosen = m.chosen } };
+
+    ghost invariant = { λ m. IsKept (record { found = m.found; chosen = m.chosen }) };
 }
 
 impl Mount {
     ghost use Rattle.std.specs.Prelude.{◌≡◌, ◌<◌};
-    ghost use Rattle.f2_bytes.specs.Superblock.{layout_of};
+    ghost use Rattle.f2_bytes.specs.NodeAddressTable.{nid_limit};
+    ghost use Rattle.f2_view.specs.Mounted.{layout_in, IsKept};
     ghost use Rattle.f2_bytes.specs.Checkpoint.{log, checkpoint_ver};
     ghost use Rattle.f2_pack.specs.Logs.{log_of};
 
     // The mount of an image with this superblock and this checkpoint pack.
     pub(crate) fn of(found: Found, chosen: Chosen) -> Mount
+        requires { IsKept (record { found = found; chosen = chosen }) }
         ensures { result ≡ record { found = found; chosen = chosen } }
     {
         Mount { found, chosen }
     }
 
-    /// Where the areas of the image lie.
+    /// Where the areas of the image lie, in blocks.
     pub fn layout(&self) -> Layout
-        ensures { result ≡ layout_of self.now.found.sup }
+        ensures value { result ≡ layout_in self.now }
+        ensures kept { IsKept self.now }
     {
         self.found.sup.layout()
     }
@@ -61,7 +66,14 @@ impl Mount {
         self.chosen.log(t)
     }
 
-    /// The version of the checkpoint.
+    /// The number of nids: each is below it.
+    pub fn nid_limit(&self) -> u32
+        ensures { result ≡ nid_limit (layout_in self.now) }
+    {
+        455 * self.layout().nat_half
+    }
+
+    /// The version of the checkpoint, below 2^62.
     pub fn version(&self) -> u64
         ensures { result ≡ checkpoint_ver self.now.chosen.head }
     {

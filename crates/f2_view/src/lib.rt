@@ -3,6 +3,8 @@
 
 mod accessors;
 mod mounting;
+mod readings;
 
 pub use accessors::Mount;
 pub use mounting::{MountRefusal, mount};
+pub use readings::ViewRefusal;

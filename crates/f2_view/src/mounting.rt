@@ -2,7 +2,7 @@
 ghost use Rattle.std.specs.Prelude.{◌≡◌, ℕ, Some, IfOk, IsErrOf};
 ghost use Rattle.f2_bytes.specs.Bytes.{Image};
 ghost use Rattle.f2_disk.specs.Disk.{Reads, Goes, Rose};
-ghost use Rattle.f2_view.specs.Mounted.{IsMounted};
+ghost use Rattle.f2_view.specs.Mounted.{IsMounted, IsMountOf};
 ghost use Rattle.f2_view.specs.Mounting.{mounted, super_refusal, pack_refusal, OrFails};
 
 use crate::Mount;
@@ -76,6 +76,8 @@ impl From<PackRefusal> for MountRefusal {
 pub fn mount<D: Disk>(alloc: Global, d: &mut D) -> Result<Mount, MountRefusal>
     // Exactly which answer, where the disk tells its blocks.
     ensures exact { (image : Image) → (D.state d.old).told ≡ Some image → OrFails result (mounted (D.state d.old).size image) }
+    // The mount is then of that image.
+    ensures of_image { IfOk result (λ m. (image : Image) → (D.state d.old).told ≡ Some image → IsMountOf image m) }
     // What is known of it on every disk.
     ensures sound { IfOk result (IsMounted (D.state d.old).size) }
     ensures reads { Reads (D.state d.old) (D.state d.new) }

@@ -1,6 +1,6 @@
 use Rattle.std.proofs.Common.{◌++◌, ◌∙◌, ap}
 use Rattle.f2_bytes.specs.Checkpoint.{checkpoint_rows}
-use Rattle.f2_dump.specs.Text.{field_lines, checkpoint_names}
+use Rattle.f2_dump.specs.Fields.{field_lines, checkpoint_names}
 use Rattle.f2_dump.proofs.dumping.checkpoint_text.Goals as goal
 
 pub returns : goal.returns

@@ -2,7 +2,7 @@ use Rattle.std.proofs.Common.{◌≡◌, ◌≤◌, ◌+◌, ◌++◌, ◌∙◌
 use Rattle.std.specs.Prelude.{flat_map}
 use Rattle.std.proofs.lemmas.List.{get_or-map, length-map}
 use Rattle.f2_bytes.specs.Bytes.{numbers_below}
-use Rattle.f2_dump.specs.Text.{field_line}
+use Rattle.f2_dump.specs.Fields.{field_line}
 use Rattle.f2_bytes.specs.Fields.{row_at, field_at}
 use Rattle.f2_dump.proofs.FieldLines.{lines-none, lines-more, row-fits}
 use Rattle.f2_dump.proofs.lines.push_fields.Goals as goal

@@ -2,7 +2,7 @@ use Rattle.std.proofs.Common.{◌≡◌, ◌++◌, [], get_or, map}
 use Rattle.std.specs.Prelude.{flat_map}
 use Rattle.f2_bytes.specs.Bytes.{numbers_below}
 use Rattle.f2_bytes.specs.Fields.{field_at}
-use Rattle.f2_dump.specs.Text.{field_line}
+use Rattle.f2_dump.specs.Fields.{field_line}
 use Rattle.f2_dump.proofs.lines.push_fields.Given as goal
 
 -- the lines of the fields so far

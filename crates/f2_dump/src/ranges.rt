@@ -1,0 +1,38 @@
+// The ranges of numbers that can be dumped.
+ghost use Rattle.std.specs.Prelude.{◌≡◌};
+ghost use Rattle.f2_bytes.specs.Superblock.{IsInOrder};
+ghost use Rattle.f2_dump.specs.Text.{outside as is_outside, outside_of as lies_outside};
+
+use crate::What;
+use f2_bytes::Layout;
+
+// The number of a range that lies outside of those below a limit.
+fn outside_of(limit: u64, first: u64, last: Option<u64>) -> Option<u64>
+    ensures { result ≡ lies_outside limit first last }
+{
+    match last {
+        None => { if limit <= first { Some(first) } else { None } }
+        Some(last) => {
+            if limit <= first || last < first {
+                Some(first)
+            } else if limit <= last {
+                Some(last)
+            } else {
+                None
+            }
+        }
+    }
+}
+
+// The number that lies outside of what can be dumped of an image with this layout.
+pub(crate) fn outside(l: &Layout, what: What) -> Option<u64>
+    requires { IsInOrder l.now }
+    ensures { result ≡ is_outside l.now what }
+{
+    match what {
+        What::Cp => None,
+        What::Nat(first, last) => outside_of(455 * u64::from(l.nat_half), first, last),
+        What::Sit(first, last) => outside_of(u64::from(l.segments), first, last),
+        What::Raw(address) => outside_of(l.blocks, address, None),
+    }
+}
