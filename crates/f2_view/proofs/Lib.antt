@@ -1,1 +1,2 @@
 mod Mounts
+mod TableReadings

@@ -3,11 +3,12 @@ use Rattle.std.specs.Prelude.{◌≡◌, ℕ, ◌^◌, ◌<◌, ◌≤◌, true,
 use Rattle.f2_bytes.specs.declared.layout.Layout.{Layout}
 use Rattle.f2_bytes.specs.Bytes.{Image}
 use Rattle.f2_bytes.specs.Superblock.{layout_of, IsInOrder, super_copy, super_bytes, has_twins}
-use Rattle.f2_bytes.specs.Checkpoint.{checkpoint_ver, pack, pack_number, has_checkpoint}
+use Rattle.f2_bytes.specs.Checkpoint.{checkpoint_ver, nat_bits, sit_bits, pack, pack_number, has_checkpoint}
 use Rattle.f2_super.specs.declared.loading.Found.{Found}
 use Rattle.f2_super.specs.Load.{IsSound}
 use Rattle.f2_pack.specs.Held.{Held, chosen_of}
 use Rattle.f2_pack.specs.Choice.{IsChosen}
+use Rattle.f2_tables.specs.Tables.{NatTable, SitTable, OpensNat, OpensSit}
 
 -- the superblock that counts, and the checkpoint pack that counts
 pub record Mounted : Type 0 where
@@ -32,7 +33,13 @@ pub record IsKept (m : Mounted) : Type 0 where
   pub chosen : IsChosen (layout_in m) m.chosen
   pub version : checkpoint_ver m.chosen.head < 2 ^ 62
 
--- and on a disk of this many blocks
+-- what a mount keeps, and its tables, which were opened with it
+pub record IsWhole (m : Mounted) (nat : NatTable) (sit : SitTable) : Type 0 where
+  pub kept : IsKept m
+  pub nat_opened : OpensNat (layout_in m) (nat_bits m.chosen.head) m.chosen.nat_journal nat
+  pub sit_opened : OpensSit (layout_in m) (sit_bits m.chosen.head) m.chosen.sit_journal sit
+
+-- what is known of a mount on a disk of this many blocks
 pub record IsMounted (size : ℕ) (m : Mounted) : Type 0 where
   pub sound : IsSound size m.found
   pub inside : (layout_in m).blocks ≤ size

@@ -2,38 +2,46 @@
 use f2_bytes::Layout;
 use f2_pack::{Chosen, Log};
 use f2_super::Found;
+use f2_tables::{Nat, Sit};
 use std::marker::Model;
 
-/// An image that is mounted: what is kept of its superblock and its checkpoint pack.
+/// An image that is mounted: what is kept of its superblock and its checkpoint pack, and its two tables.
 #[derive(Drop)]
 pub struct Mount {
     found: Found,
     chosen: Chosen,
+    pub(crate) nat: Nat,
+    pub(crate) sit: Sit,
 }
 
 impl Model for Mount {
-    ghost use Rattle.f2_view.specs.Mounted.{Mounted, IsKept};
+    ghost use Rattle.f2_view.specs.Mounted.{Mounted, IsWhole};
 
     ghost Value = { Mounted };
 
     ghost view = { λ m. record { found = m.found; chosen = m.chosen } };
 
-    ghost invariant = { λ m. IsKept (record { found = m.found; chosen = m.chosen }) };
+    ghost invariant = { λ m. IsWhole (record { found = m.found; chosen = m.chosen }) m.nat m.sit };
 }
 
 impl Mount {
     ghost use Rattle.std.specs.Prelude.{◌≡◌, ◌<◌};
     ghost use Rattle.f2_bytes.specs.NodeAddressTable.{nid_limit};
-    ghost use Rattle.f2_view.specs.Mounted.{layout_in, IsKept};
+    ghost use Rattle.f2_view.specs.Mounted.{layout_in, IsKept, IsWhole};
     ghost use Rattle.f2_bytes.specs.Checkpoint.{log, checkpoint_ver};
     ghost use Rattle.f2_pack.specs.Logs.{log_of};
 
-    // The mount of an image with this superblock and this checkpoint pack.
-    pub(crate) fn of(found: Found, chosen: Chosen) -> Mount
-        requires { IsKept (record { found = found; chosen = chosen }) }
+    // The mount of an image with this superblock and this checkpoint pack, and the tables that were opened with them.
+    pub(crate) fn of(found: Found, chosen: Chosen, nat: Nat, sit: Sit) -> Mount
+        requires { IsWhole (record { found = found; chosen = chosen }) nat sit }
         ensures { result ≡ record { found = found; chosen = chosen } }
     {
-        Mount { found, chosen }
+        Mount {
+            found,
+            chosen,
+            nat,
+            sit,
+        }
     }
 
     /// Where the areas of the image lie, in blocks.

@@ -4,11 +4,14 @@ ghost use Rattle.f2_bytes.specs.Bytes.{Image};
 ghost use Rattle.f2_disk.specs.Disk.{Reads, Goes, Rose};
 ghost use Rattle.f2_view.specs.Mounted.{IsMounted, IsMountOf};
 ghost use Rattle.f2_view.specs.Mounting.{mounted, super_refusal, pack_refusal, OrFails};
+ghost use Rattle.f2_view.specs.declared.mounting.MountRefusal.TheVariants.{NoMemory as MemoryShort};
 
 use crate::Mount;
+use f2_bytes::NoMemory;
 use f2_disk::Disk;
 use f2_pack::{PackRefusal, choose};
 use f2_super::{SuperRefusal, load};
+use f2_tables::{Nat, Sit};
 use std::alloc::Global;
 use thiserror::Error;
 
@@ -72,6 +75,14 @@ impl From<PackRefusal> for MountRefusal {
     }
 }
 
+impl From<NoMemory> for MountRefusal {
+    ghost from_gives = { λ _ e. e ≡ MemoryShort };
+
+    fn from(_: NoMemory) -> Self {
+        MountRefusal::NoMemory
+    }
+}
+
 /// Mounts the image of a disk. It reads alone.
 pub fn mount<D: Disk>(alloc: Global, d: &mut D) -> Result<Mount, MountRefusal>
     // Exactly which answer, where the disk tells its blocks.
@@ -88,5 +99,7 @@ pub fn mount<D: Disk>(alloc: Global, d: &mut D) -> Result<Mount, MountRefusal>
     let found = load(d)?;
     let layout = found.sup.layout();
     let chosen = choose(alloc, d, &layout)?;
-    Ok(Mount::of(found, chosen))
+    let nat = Nat::open(alloc, &layout, chosen.nat_bits(), chosen.nat_journal())?;
+    let sit = Sit::open(alloc, &layout, chosen.sit_bits(), chosen.sit_journal())?;
+    Ok(Mount::of(found, chosen, nat, sit))
 }

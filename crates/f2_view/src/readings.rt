@@ -7,10 +7,12 @@ ghost use Rattle.f2_bytes.specs.Superblock.{layout};
 ghost use Rattle.f2_disk.specs.Disk.{Reads, Goes, Rose};
 ghost use Rattle.f2_sum.specs.Records.{nat_entry, sit_entry};
 ghost use Rattle.f2_view.specs.Mounted.{layout_in, IsMountOf};
+ghost use Rattle.f2_view.specs.Readings.{view_refusal};
 
 use crate::Mount;
 use f2_disk::Disk;
 use f2_sum::{NatEntry, SitEntry};
+use f2_tables::TableRefusal;
 use thiserror::Error;
 
 /// Why a reading of a mounted image failed.
@@ -22,6 +24,17 @@ pub enum ViewRefusal {
     /// No memory is left.
     #[error("no memory is left")]
     NoMemory,
+}
+
+impl From<TableRefusal> for ViewRefusal {
+    ghost from_gives = { λ refusal e. e ≡ view_refusal refusal };
+
+    fn from(refusal: TableRefusal) -> Self {
+        match refusal {
+            TableRefusal::DiskFault => ViewRefusal::DiskFault,
+            TableRefusal::NoMemory => ViewRefusal::NoMemory,
+        }
+    }
 }
 
 impl Mount {
@@ -36,7 +49,7 @@ impl Mount {
         ensures goes { Goes (D.state d.old) (D.state d.new) }
         ensures fault { IsErrOf result ViewRefusal.DiskFault → Rose (D.state d.old).faults (D.state d.new).faults }
     {
-        Err(ViewRefusal::NoMemory)
+        Ok(self.nat.get(d, nid)?)
     }
 
     /// The entry of a main segment, counted from 0.
@@ -50,7 +63,7 @@ impl Mount {
         ensures goes { Goes (D.state d.old) (D.state d.new) }
         ensures fault { IsErrOf result ViewRefusal.DiskFault → Rose (D.state d.old).faults (D.state d.new).faults }
     {
-        Err(ViewRefusal::NoMemory)
+        Ok(self.sit.get(d, segno)?)
     }
 
     /// The least number of a node from `from` on, if there is one.
@@ -64,6 +77,6 @@ impl Mount {
         ensures goes { Goes (D.state d.old) (D.state d.new) }
         ensures fault { IsErrOf result ViewRefusal.DiskFault → Rose (D.state d.old).faults (D.state d.new).faults }
     {
-        Err(ViewRefusal::NoMemory)
+        Ok(self.nat.live(d, from)?)
     }
 }

@@ -1,0 +1,70 @@
+-- The least number that passes a test.
+use Rattle.std.proofs.Common.{◌≡◌, ◌≢◌, ℕ, zero, suc, ◌+◌, ◌≤◌, ◌<◌, Bool, true, false, cond, Some, None, refl, ap, ◌∙◌, arith}
+use Rattle.std.specs.Prelude.{find, nat_le, nat_lt, ◌&&◌, not, ◌==◌}
+use Rattle.std.specs.List.{range_with_len}
+use Rattle.std.proofs.lemmas.Bool.{leb-true, le-leb, lt-ltb, ne_eqb}
+use Rattle.f2_bytes.specs.declared.layout.Layout.{Layout}
+use Rattle.f2_bytes.specs.Bytes.{numbers_below}
+use Rattle.f2_bytes.specs.Journal.{NatEntry}
+use Rattle.f2_bytes.specs.NodeAddressTable.{nid_limit, next_live, is_live}
+
+find-some : (test : ℕ → Bool) (a n k : ℕ) → k < n → test (a + k) ≡ true → ((m : ℕ) → m < k → test (a + m) ≡ false) → find test (range_with_len a n) ≡ Some (a + k)
+find-some test a zero k below here before = absurd (omega (arith, below))
+find-some test a (suc n) zero below here before =
+    let first : test a ≡ true = ap test (omega arith) ∙ here in
+    ap (λ b. cond b (Some a) (find test (range_with_len (a + 1) n))) first ∙ ap (λ m. Some m) (omega arith)
+find-some test a (suc n) (suc k) below here before =
+    let first : test a ≡ false = ap test (omega arith) ∙ before 0 (omega arith) in
+    ap (λ b. cond b (Some a) (find test (range_with_len (a + 1) n))) first
+    ∙ find-some test (a + 1) n k (omega (arith, below)) (ap test (omega arith) ∙ here) (λ m lt. ap test (omega arith) ∙ before (suc m) (omega (arith, lt)))
+    ∙ ap (λ m. Some m) (omega arith)
+
+find-none : (test : ℕ → Bool) (a n : ℕ) → ((m : ℕ) → m < n → test (a + m) ≡ false) → find test (range_with_len a n) ≡ None
+find-none test a zero none = refl
+find-none test a (suc n) none =
+    let first : test a ≡ false = ap test (omega arith) ∙ none 0 (omega arith) in
+    ap (λ b. cond b (Some a) (find test (range_with_len (a + 1) n))) first
+    ∙ find-none test (a + 1) n (λ m lt. ap test (omega arith) ∙ none (suc m) (omega (arith, lt)))
+
+pub find-least : (test : ℕ → Bool) (n k : ℕ) → k < n → test k ≡ true → ((m : ℕ) → m < k → test m ≡ false) → find test (numbers_below n) ≡ Some k
+unfolding numbers_below
+find-least test n k below here before =
+    find-some test 0 n k below (ap test (omega arith) ∙ here) (λ m lt. ap test (omega arith) ∙ before m lt) ∙ ap (λ m. Some m) (omega arith)
+
+pub find-nothing : (test : ℕ → Bool) (n : ℕ) → ((m : ℕ) → m < n → test m ≡ false) → find test (numbers_below n) ≡ None
+unfolding numbers_below
+find-nothing test n none = find-none test 0 n (λ m lt. ap test (omega arith) ∙ none m lt)
+
+-- the test of a node's number, from its parts
+passes : (p q r z : Bool) → p ≡ true → q ≡ true → r ≡ true → z ≡ false → (p && (q && r && not z)) ≡ true
+passes true true true false a b c d = refl
+passes false q r z a b c d = cc
+passes true false r z a b c d = cc
+passes true true false z a b c d = cc
+passes true true true true a b c d = cc
+
+fails : (p q r z : Bool) → (p ≡ true → q ≡ true → z ≡ true) → (p && (q && r && not z)) ≡ false
+fails false q r z is = refl
+fails true false r z is = refl
+fails true true false z is = refl
+fails true true true false is = cc (is refl refl)
+fails true true true true is = refl
+
+-- a number whose entry has no address from the larger one of two on is none of a node
+no_node : (l : Layout) (entry : ℕ → NatEntry) (from m : ℕ) → (from ≤ m → 3 ≤ m → (entry m).address ≡ 0) → (nat_le from m && is_live l m (entry m)) ≡ false
+no_node l entry from m none =
+    fails (nat_le from m) (nat_le 3 m) (nat_lt m (nid_limit l)) ((entry m).address == 0)
+    (λ p q. ap (λ a. a == 0) (none (leb-true from m p) (leb-true 3 m q)))
+
+pub next-none : (l : Layout) (entry : ℕ → NatEntry) (from : ℕ) → ((m : ℕ) → from ≤ m → 3 ≤ m → m < nid_limit l → (entry m).address ≡ 0) → next_live l entry from ≡ None
+unfolding next_live
+next-none l entry from none =
+    find-nothing (λ m. nat_le from m && is_live l m (entry m)) (nid_limit l) (λ m lt. no_node l entry from m (λ a b. none m a b lt))
+
+pub next-some : (l : Layout) (entry : ℕ → NatEntry) (from n : ℕ) → from ≤ n → 3 ≤ n → n < nid_limit l → (entry n).address ≢ 0
+    → ((m : ℕ) → from ≤ m → 3 ≤ m → m < n → (entry m).address ≡ 0) → next_live l entry from ≡ Some n
+unfolding next_live
+next-some l entry from n low least high some none =
+    let here : (nat_le from n && is_live l n (entry n)) ≡ true =
+    passes (nat_le from n) (nat_le 3 n) (nat_lt n (nid_limit l)) ((entry n).address == 0) (le-leb from n low) (le-leb 3 n least) (lt-ltb n (nid_limit l) high) (ne_eqb (entry n).address 0 some) in
+    find-least (λ m. nat_le from m && is_live l m (entry m)) (nid_limit l) n high here (λ m lt. no_node l entry from m (λ a b. none m a b lt))

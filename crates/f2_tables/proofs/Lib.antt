@@ -1,0 +1,4 @@
+pub mod FirstRecords
+pub mod Least
+pub mod Marks
+pub mod Walk

@@ -1,0 +1,137 @@
+// The segment table.
+ghost use Rattle.std.specs.Prelude.{◌≡◌, ◌≢◌, ◌≤◌, ◌<◌, ◌/◌, ℕ, length, option_map, is_some, true, Some, Err, IfOk, OnOk, OnErr, IsErrOf};
+ghost use Rattle.f2_bytes.specs.Bytes.{Image, block_at};
+ghost use Rattle.f2_bytes.specs.Journal.{SitEntry as FormatSitEntry, FitsSitEntry};
+ghost use Rattle.f2_bytes.specs.SegmentTable.{sit_block_address, sit_journal_entry};
+ghost use Rattle.f2_bytes.specs.Superblock.{IsInOrder};
+ghost use Rattle.f2_disk.specs.Disk.{Reads, Goes, Rose};
+ghost use Rattle.f2_sum.specs.Records.{sit_entry};
+ghost use Rattle.f2_tables.specs.Tables.{value_at, sit_newer, IsSit, OpensSit, SetsSit, sit_in, sit_dirty};
+
+use crate::TableRefusal;
+use crate::newer::Newer;
+use f2_bytes::{Layout, NoMemory, bit_msb};
+use f2_disk::{Block, Disk};
+use f2_sum::{SitEntry, SitJournal, sit_entry_at};
+use std::alloc::Global;
+use std::marker::Model;
+
+// How many entries a block has.
+const ENTRIES: u32 = 55;
+
+/// The segment table: for each main segment the type of its blocks, and which of them are valid.
+///
+/// What was set goes before the first record of the journal, and that before the block of the table that is in use.
+#[derive(Drop)]
+pub struct Sit {
+    layout: Layout,
+    bits: Vec<u8>,
+    newer: Newer<SitEntry>,
+}
+
+impl Model for Sit {
+    ghost use Rattle.f2_tables.specs.Tables.{SitTable, IsSit};
+
+    ghost Value = { SitTable };
+
+    ghost view = { λ t. record { layout = t.layout; bits = t.bits.items; newer = t.newer } };
+
+    ghost invariant = { λ t. IsSit (record { layout = t.layout; bits = t.bits.items; newer = t.newer }) };
+}
+
+// The entries of the first record of each segment.
+fn first_records(alloc: Global, j: &SitJournal) -> Result<Newer<SitEntry>, NoMemory>
+    ensures records { IfOk result (λ newer. (n : ℕ) → option_map sit_entry (value_at newer n) ≡ sit_journal_entry j.now n) }
+    ensures fits { IfOk result (λ newer. (n : ℕ) (e : FormatSitEntry) → option_map sit_entry (value_at newer n) ≡ Some e → FitsSitEntry e) }
+{
+    let mut newer = Newer::new(alloc);
+    for k in 0..j.len() {
+        let record = j.get(k);
+        newer.set_first(record.segno, record.entry)?;
+    }
+    Ok(newer)
+}
+
+impl Sit {
+    /// The table in the areas of a layout, with these bits of its blocks and this journal. Nothing is set.
+    pub fn open(alloc: Global, l: &Layout, bits: &[u8], j: &SitJournal) -> Result<Sit, NoMemory>
+        requires order { IsInOrder l.now }
+        requires bits { length bits.now ≡ l.now.sit_half / 8 }
+        ensures { IfOk result (OpensSit l.now bits.now j.now) }
+    {
+        let bits = match bits.to_vec(alloc) {
+            Ok(bits) => bits,
+            Err(_) => return Err(NoMemory),
+        };
+        let newer = first_records(alloc, j)?;
+        Ok(Sit {
+            layout: *l,
+            bits,
+            newer,
+        })
+    }
+
+    // Reads block `k` of the copies in use.
+    fn read<D: Disk>(&self, d: &mut D, k: u32) -> Result<Block, TableRefusal>
+        requires block { k < self.now.layout.sit_half }
+        requires lies { self.now.layout.blocks ≤ (D.state d.old).size }
+        ensures block { IfOk result (λ b. (image : Image) → (D.state d.old).told ≡ Some image → b ≡ block_at image (sit_block_address self.now.layout self.now.bits k)) }
+        ensures reads { Reads (D.state d.old) (D.state d.new) }
+        ensures goes { Goes (D.state d.old) (D.state d.new) }
+        ensures fault { IsErrOf result TableRefusal.DiskFault → Rose (D.state d.old).faults (D.state d.new).faults }
+        ensures only { result ≢ Err TableRefusal.NoMemory }
+    {
+        let first = self.layout.sit + k;
+        let second = if bit_msb(&self.bits, k as usize) {
+            self.layout.sit_half
+        } else {
+            0
+        };
+        let mut block = Block::zeros();
+        d.read(u64::from(first + second), &mut block)?;
+        Ok(block)
+    }
+
+    /// The entry of a main segment, counted from 0.
+    pub fn get<D: Disk>(&mut self, d: &mut D, segno: u32) -> Result<SitEntry, TableRefusal>
+        requires segment { segno < self.old.layout.segments }
+        requires lies { self.old.layout.blocks ≤ (D.state d.old).size }
+        ensures entry { IfOk result (λ e. (image : Image) → (D.state d.old).told ≡ Some image → sit_entry e ≡ sit_in self.old image segno) }
+        ensures fits { IfOk result (λ e. FitsSitEntry (sit_entry e)) }
+        // What was set or stands in the journal needs no disk.
+        ensures newer { is_some (sit_newer self.old segno) ≡ true → IfOk result (λ e. sit_newer self.old segno ≡ Some (sit_entry e)) }
+        ensures table { self.new ≡ self.old }
+        ensures reads { Reads (D.state d.old) (D.state d.new) }
+        ensures goes { Goes (D.state d.old) (D.state d.new) }
+        ensures fault { IsErrOf result TableRefusal.DiskFault → Rose (D.state d.old).faults (D.state d.new).faults }
+    {
+        if let Some(entry) = self.newer.get(segno) {
+            return Ok(entry);
+        }
+        let block = self.read(d, segno / ENTRIES)?;
+        Ok(sit_entry_at(block.bytes(), 74 * (segno % ENTRIES) as usize))
+    }
+
+    /// The numbers of the table's blocks that have an entry which stands in the journal or was set, in ascending order.
+    pub fn dirty(&self) -> Result<Vec<u32>, NoMemory>
+        ensures { IfOk result (λ blocks. blocks.items ≡ sit_dirty self.now) }
+    {
+        self.newer
+            .blocks(self.layout.sit_half, ENTRIES, self.layout.segments)
+    }
+
+    /// Gives a main segment this entry, whose kind is below 64 and whose count is below 1024. The disk is not asked.
+    pub fn set<D: Disk>(&mut self, d: &mut D, segno: u32, e: SitEntry) -> Result<(), TableRefusal>
+        requires segment { segno < self.old.layout.segments }
+        requires fits { FitsSitEntry (sit_entry e) }
+        ensures done { OnOk result (SetsSit segno (sit_entry e) self.old self.new) }
+        ensures err { OnErr result (self.new ≡ self.old) }
+        ensures disk { d.new ≡ d.old }
+        ensures fault { IsErrOf result TableRefusal.DiskFault → ⊥ }
+    {
+        match self.newer.set(segno, e) {
+            Ok(()) => Ok(()),
+            Err(_) => Err(TableRefusal::NoMemory),
+        }
+    }
+}
