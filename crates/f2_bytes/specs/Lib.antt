@@ -4,7 +4,9 @@ pub mod Checkpoint
 pub mod Checksum
 pub mod Fields
 pub mod Journal
+pub mod Node
 pub mod NodeAddressTable
 pub mod SegmentTable
 pub mod Summary
 pub mod Superblock
+pub mod Tree

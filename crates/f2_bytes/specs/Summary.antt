@@ -1,8 +1,11 @@
 -- The summary of a main block: the node that it belongs to, and its place there.
-use Rattle.std.specs.Prelude.{ℕ, ◌+◌, ◌-◌, ◌*◌, ◌/◌, ◌%◌, nat_lt, if◌then◌else◌, List, ◌++◌, map, take, sum, Option, Some, None}
+use Rattle.std.specs.Prelude.{ℕ, ◌+◌, ◌-◌, ◌*◌, ◌/◌, ◌%◌, ◌==◌, nat_lt, if◌then◌else◌, List, ◌++◌, map, take, sum, find, Option, Some, None, unwrap_or}
 use Rattle.byteorder.specs.Endian.{little_bytes}
-use Rattle.f2_bytes.specs.Bytes.{Block, number_at}
-use Rattle.f2_bytes.specs.Checkpoint.{Pack, pack_head, data_log_numbers, is_compact, compact_count, has_node_summaries}
+use Rattle.f2_bytes.specs.declared.layout.Layout.{Layout}
+use Rattle.f2_bytes.specs.Bytes.{Block, Image, block_at, number_at}
+use Rattle.f2_bytes.specs.Node.{footer_nid}
+use Rattle.f2_bytes.specs.Superblock.{layout, segment_of, place_of}
+use Rattle.f2_bytes.specs.Checkpoint.{Pack, pack_head, pack, head, log, log_numbers, data_log_numbers, is_compact, compact_count, has_node_summaries}
 use Rattle.f2_bytes.specs.Journal.{data_summary_start, node_summary_start}
 
 pub record Summary : Type 0 where
@@ -42,3 +45,23 @@ pack_summary pack t k =
     then (if nat_lt k (compact_count head t) then Some (summary_at (pack (data_summary_start head + place.0)) place.1) else None)
     else Some (summary_entry (pack (data_summary_start head + t)) k))
     else (if has_node_summaries head then Some (summary_entry (pack (node_summary_start head + (t - 3))) k) else None)
+
+-- without node summaries a node's footer says its nid; any other summary that the pack lacks is zeros
+abbrev pub missing_summary : Image → ℕ → ℕ → Summary
+missing_summary image t address = record { nid = if nat_lt t 3 then 0 else footer_nid (block_at image address); version = 0; place = 0 }
+
+-- the least log whose segment this is
+abbrev pub log_of : Block → ℕ → Option ℕ
+log_of head segment = find (λ t. (log head t).segment == segment) log_numbers
+
+-- the summary in the block for a segment that is no log's
+abbrev pub stored_summary : Layout → Image → ℕ → Summary
+stored_summary l image address = summary_entry (block_at image (l.ssa + segment_of l address)) (place_of l address)
+
+-- the summary of a main block: the pack's where its segment is a log's
+abbrev pub summary_in : Layout → Pack → Image → Option ℕ → ℕ → Summary
+summary_in l pack image None address = stored_summary l image address
+summary_in l pack image (Some t) address = unwrap_or (pack_summary pack t (place_of l address)) (missing_summary image t address)
+
+unfoldable pub summary : Image → ℕ → Summary
+summary image address = summary_in (layout image) (pack image) image (log_of (head image) (segment_of (layout image) address)) address

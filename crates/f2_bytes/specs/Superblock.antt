@@ -1,5 +1,5 @@
 -- The superblock: its rows, when a copy passes, which copy counts, and where it says that the areas lie.
-use Rattle.std.specs.Prelude.{◌≡◌, ℕ, ◌+◌, ◌-◌, ◌*◌, ◌/◌, ◌%◌, ◌^◌, ◌≤◌, ◌<◌, Bool, not, ◌||◌, ◌&&◌, ◌==◌, nat_le, List, [], ◌∷◌, length, drop, take, find, Option, option_map, unwrap_or, is_some, bit_and}
+use Rattle.std.specs.Prelude.{◌≡◌, ℕ, ◌+◌, ◌-◌, ◌*◌, ◌/◌, ◌%◌, ◌^◌, ◌≤◌, ◌<◌, Bool, not, ◌||◌, ◌&&◌, ◌==◌, nat_le, nat_lt, List, [], ◌∷◌, length, drop, take, find, Option, option_map, unwrap_or, is_some, bit_and}
 use Rattle.std.specs.List.{list_all}
 use Rattle.f2_bytes.specs.declared.layout.Layout.{Layout}
 use Rattle.f2_bytes.specs.declared.fields.Field.{Field}
@@ -232,6 +232,17 @@ layout_of c = record {
 -- where the areas of an image lie
 unfoldable pub layout : Image → Layout
 layout image = layout_of (super_bytes image)
+
+-- the address is that of a block of the main area
+abbrev pub is_main : Layout → ℕ → Bool
+is_main l address = nat_le l.main address && nat_lt address (l.main + 512 * l.segments)
+
+-- the main segment of such an address, and the place of the block in it
+abbrev pub segment_of : Layout → ℕ → ℕ
+segment_of l address = (address - l.main) / 512
+
+abbrev pub place_of : Layout → ℕ → ℕ
+place_of l address = (address - l.main) % 512
 
 -- A layout whose areas follow each other: what each call that takes a layout needs.
 pub record IsInOrder (l : Layout) : Type 0 where
