@@ -1,0 +1,22 @@
+use Rattle.std.proofs.Common.{◌≡◌, ◌++◌, ◌∙◌, ℕ, List, sym, ap, arith, append_assoc}
+use Rattle.std.specs.Prelude.{flat_map}
+use Rattle.f2_bytes.specs.Bytes.{numbers_below}
+use Rattle.f2_dump.specs.Text.{row_line, block_lines}
+use Rattle.f2_dump.proofs.FieldLines.{lines-none, lines-more}
+use Rattle.f2_dump.proofs.hex.push_rows.Goals as goal
+
+pub loop-k-init : goal.loop-k-init
+loop-k-init c = lines-none (row_line c.args.bytes.now) c.args.text.now.items
+
+pub loop-k-preserved : goal.loop-k-preserved
+loop-k-preserved c =
+    let line = row_line c.args.bytes.now in
+    let k = c.loop-k.k in
+    c.in_ok-push_row.ensures ∙ ap (λ (l : List ℕ). l ++ line k) c.loop-k.invariant
+    ∙ append_assoc c.args.text.now.items (flat_map line (numbers_below k)) (line k) ∙ ap (λ (l : List ℕ). c.args.text.now.items ++ l) (sym (lines-more line k))
+
+pub returns : goal.returns
+unfolding block_lines
+returns c =
+    let all : c.loop-k.k ≡ 256 = omega arith in
+    c.loop-k.invariant ∙ ap (λ (n : ℕ). c.args.text.now.items ++ flat_map (row_line c.args.bytes.now) (numbers_below n)) all
