@@ -12,3 +12,6 @@ mod tables;
 
 pub use dumping::{DumpRefusal, What, dump};
 pub use names::checkpoint_names_are_known;
+
+#[cfg(test)]
+mod tests;
