@@ -1,5 +1,5 @@
 // What is dumped of a mounted image.
-ghost use Rattle.std.specs.Prelude.{◌≡◌, ◌≤◌, ◌<◌, Some, IfOk, IsErrOf};
+ghost use Rattle.std.specs.Prelude.{◌≡◌, ◌≤◌, ◌<◌, Some, IfOk, IsErrOf, length};
 ghost use Rattle.f2_bytes.specs.Bytes.{Image, block_at};
 ghost use Rattle.f2_bytes.specs.Checkpoint.{checkpoint_rows};
 ghost use Rattle.f2_disk.specs.Disk.{Reads, Goes, Rose};
@@ -9,7 +9,7 @@ ghost use Rattle.f2_dump.specs.Text.{dump_lines, block_lines, outside as is_outs
 ghost use Rattle.f2_dump.specs.Dump.{Dumps, Refuses, Sinks, OnlySink, IsInside, reading_refusal};
 ghost use Rattle.f2_dump.specs.declared.dumping.DumpRefusal.TheVariants.{DiskFault as Faulted, NoMemory as MemoryShort};
 
-use crate::gathering::put_text;
+use crate::gathering::{PIECE, put_text};
 use crate::hex::push_rows;
 use crate::lines::push_fields;
 use crate::names::CHECKPOINT_NAMES;
@@ -80,7 +80,8 @@ impl From<DiskFault> for DumpRefusal {
 
 // The lines of the checkpoint that counts.
 fn checkpoint_text(alloc: Global, m: &Mount) -> Result<Vec<u8>, AllocError>
-    ensures { IfOk result (λ text. text.items ≡ field_lines checkpoint_names checkpoint_rows m.now.chosen.head) }
+    ensures lines { IfOk result (λ text. text.items ≡ field_lines checkpoint_names checkpoint_rows m.now.chosen.head) }
+    ensures size { IfOk result (λ text. length text.items ≤ PIECE) }
 {
     let mut text = Vec::new(alloc);
     let head = m.chosen().head().block();
@@ -102,7 +103,8 @@ fn dump_checkpoint<O: Sink>(alloc: Global, m: &Mount, o: &mut O) -> Result<(), D
 
 // The lines of a block.
 fn block_text(alloc: Global, b: &Block) -> Result<Vec<u8>, AllocError>
-    ensures { IfOk result (λ text. text.items ≡ block_lines b.now) }
+    ensures lines { IfOk result (λ text. text.items ≡ block_lines b.now) }
+    ensures size { IfOk result (λ text. length text.items ≤ PIECE) }
 {
     let mut text = Vec::new(alloc);
     push_rows(&mut text, b.bytes())?;

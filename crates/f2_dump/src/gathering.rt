@@ -14,6 +14,7 @@ pub(crate) const FULL: usize = PIECE - 256;
 
 // Puts a text.
 pub(crate) fn put_text<O: Sink>(o: &mut O, text: &[u8]) -> Result<(), DumpRefusal>
+    requires { length text.now ≤ PIECE }
     ensures text { Dumps text.now (O.told o.old) (O.told o.new) result }
     ensures sink { Sinks (O.faults o.old) (O.faults o.new) result }
     ensures only { OnlySink result }

@@ -28,7 +28,8 @@ pub(crate) fn push_hex(text: &mut Vec<u8>, bytes: &[u8]) -> Result<(), AllocErro
 fn push_row(text: &mut Vec<u8>, bytes: &[u8], k: usize) -> Result<(), AllocError>
     requires block { length bytes.now ≡ 4096 }
     requires row { k < 256 }
-    ensures { OnOk result (text.new.items ≡ text.old.items ++ row_line bytes.now k) }
+    ensures line { OnOk result (text.new.items ≡ text.old.items ++ row_line bytes.now k) }
+    ensures size { length text.new.items ≤ length text.old.items + 38 }
 {
     let offset = k as u8;
     text.extend_from_slice(&[hex_digit(offset / 16), hex_digit(offset % 16)])?;
@@ -40,7 +41,8 @@ fn push_row(text: &mut Vec<u8>, bytes: &[u8], k: usize) -> Result<(), AllocError
 // Appends the lines of a block.
 pub(crate) fn push_rows(text: &mut Vec<u8>, bytes: &[u8]) -> Result<(), AllocError>
     requires { length bytes.now ≡ 4096 }
-    ensures { OnOk result (text.new.items ≡ text.old.items ++ block_lines bytes.now) }
+    ensures lines { OnOk result (text.new.items ≡ text.old.items ++ block_lines bytes.now) }
+    ensures size { length text.new.items ≤ length text.old.items + 9728 }
 {
     for k in 0..256 {
         push_row(text, bytes, k)?;

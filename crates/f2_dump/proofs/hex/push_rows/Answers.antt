@@ -6,17 +6,20 @@ use Rattle.f2_dump.proofs.FieldLines.{lines-none, lines-more}
 use Rattle.f2_dump.proofs.hex.push_rows.Goals as goal
 
 pub loop-k-init : goal.loop-k-init
-loop-k-init c = lines-none (row_line c.args.bytes.now) c.args.text.now.items
+loop-k-init c = record { lines = lines-none (row_line c.args.bytes.now) c.args.text.now.items; size = omega arith }
 
 pub loop-k-preserved : goal.loop-k-preserved
 loop-k-preserved c =
     let line = row_line c.args.bytes.now in
     let k = c.loop-k.k in
-    c.in_ok-push_row.ensures ∙ ap (λ (l : List ℕ). l ++ line k) c.loop-k.invariant
-    ∙ append_assoc c.args.text.now.items (flat_map line (numbers_below k)) (line k) ∙ ap (λ (l : List ℕ). c.args.text.now.items ++ l) (sym (lines-more line k))
+    record {
+      lines = c.in_ok-push_row.ensures.line ∙ ap (λ (l : List ℕ). l ++ line k) c.loop-k.invariant.lines
+          ∙ append_assoc c.args.text.now.items (flat_map line (numbers_below k)) (line k) ∙ ap (λ (l : List ℕ). c.args.text.now.items ++ l) (sym (lines-more line k));
+      size = omega (arith, c.in_ok-push_row.ensures.size, c.loop-k.invariant.size);
+    }
 
-pub returns : goal.returns
+pub returns-clause-lines : goal.returns-clause-lines
 unfolding block_lines
-returns c =
+returns-clause-lines c =
     let all : c.loop-k.k ≡ 256 = omega arith in
-    c.loop-k.invariant ∙ ap (λ (n : ℕ). c.args.text.now.items ++ flat_map (row_line c.args.bytes.now) (numbers_below n)) all
+    c.loop-k.invariant.lines ∙ ap (λ (n : ℕ). c.args.text.now.items ++ flat_map (row_line c.args.bytes.now) (numbers_below n)) all
