@@ -1,9 +1,10 @@
 -- The lines of a record's fields, one by one.
-use Rattle.std.proofs.Common.{◌≡◌, ℕ, ◌+◌, ◌≤◌, true, List, [], ◌∷◌, ◌++◌, length, sym, ap, ◌∙◌, subst, arith, inl, inr}
+use Rattle.std.proofs.Common.{◌≡◌, ℕ, ◌+◌, ◌≤◌, true, List, [], ◌∷◌, ◌++◌, length, get_or, sym, ap, ◌∙◌, subst, arith, inl, inr}
 use Rattle.std.specs.Prelude.{flat_map, nat_le, ◌&&◌}
 use Rattle.std.specs.List.{list_all}
 use Rattle.std.proofs.lemmas.Bool.{cases_lt, and_parts, leb-true}
 use Rattle.std.proofs.lemmas.Grind.{flat_map-append}
+use Rattle.std.proofs.lemmas.List.Sums.{AllPass-from_list_all}
 use Rattle.std.proofs.lemmas.List.{get_or_past, append-nil}
 use Rattle.f2_bytes.specs.declared.fields.Field.{Field}
 use Rattle.f2_bytes.specs.Bytes.{numbers_below}
@@ -35,4 +36,11 @@ row-fits rows k all = elim (cases_lt k (length rows)) [
       let both = and_parts (lies_in 4096 row) (nat_le row.width 8) (row_passes (λ (r : Field). lies_in 4096 r && nat_le r.width 8) rows k (field 0 0) below all) in
       record { inside = leb-true (row.offset + row.width) 4096 both.0; narrow = leb-true row.width 8 both.1 }
   | inr past ↦ subst IsRow (sym (get_or_past rows k (field 0 0) past)) (record { inside = omega arith; narrow = omega arith })
+]
+
+-- no name is longer than the longest
+pub name-fits : {X : Type 0} (size : X → ℕ) (most : ℕ) (names : List X) (k : ℕ) (d : X) → size d ≤ most → list_all (λ name. nat_le (size name) most) names ≡ true → size (get_or names k d) ≤ most
+name-fits size most names k d none all = elim (cases_lt k (length names)) [
+  | inl below ↦ leb-true (size (get_or names k d)) most (AllPass-from_list_all (λ name. nat_le (size name) most) names all k d below)
+  | inr past ↦ subst (λ name. size name ≤ most) (sym (get_or_past names k d past)) none
 ]

@@ -1,2 +1,4 @@
 pub mod FieldLines
 pub mod Heads
+pub mod Nodes
+pub mod Sending

@@ -55,16 +55,27 @@ sit_line segment e =
 abbrev pub row_line : Block → ℕ → List ℕ
 row_line b k = hex_digit (k / 16) ∷ hex_digit (k % 16) ∷ codes "0: " ++ hex_bytes (bytes_at b (16 * k) 16) ++ codes "\n"
 
+-- the line of a number of an image, where it is that of a node, and that of a segment
+abbrev pub node_line : Image → ℕ → List ℕ
+node_line image nid = nat_line nid (nat image nid)
+
+abbrev pub segment_line : Image → ℕ → List ℕ
+segment_line image segment = sit_line segment (sit image segment)
+
+-- the lines of the numbers from one up to another
+abbrev pub lines_between : (ℕ → List ℕ) → ℕ → ℕ → List ℕ
+lines_between line first end = flat_map line (range_with_len first (end - first))
+
 -- the lines of the checkpoint that counts
 abbrev pub checkpoint_lines : Image → List ℕ
 checkpoint_lines image = field_lines checkpoint_names checkpoint_rows (head image)
 
 -- the lines of the nodes of a range, of its segments, and of a block
 unfoldable pub nat_lines : Image → ℕ → Option ℕ → List ℕ
-nat_lines image first last = flat_map (λ nid. nat_line nid (nat image nid)) (numbers_of (nid_limit (layout image)) first last)
+nat_lines image first last = flat_map (node_line image) (numbers_of (nid_limit (layout image)) first last)
 
 unfoldable pub sit_lines : Image → ℕ → Option ℕ → List ℕ
-sit_lines image first last = flat_map (λ segment. sit_line segment (sit image segment)) (numbers_of (layout image).segments first last)
+sit_lines image first last = flat_map (segment_line image) (numbers_of (layout image).segments first last)
 
 unfoldable pub block_lines : Block → List ℕ
 block_lines b = flat_map (row_line b) (numbers_below 256)

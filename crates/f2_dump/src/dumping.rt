@@ -1,19 +1,23 @@
 // What is dumped of a mounted image.
-ghost use Rattle.std.specs.Prelude.{◌≡◌, ◌≤◌, Some, IfOk, IsErrOf};
-ghost use Rattle.f2_bytes.specs.Bytes.{Image};
+ghost use Rattle.std.specs.Prelude.{◌≡◌, ◌≤◌, ◌<◌, Some, IfOk, IsErrOf, length};
+ghost use Rattle.f2_bytes.specs.Bytes.{Image, block_at};
 ghost use Rattle.f2_bytes.specs.Checkpoint.{checkpoint_rows};
 ghost use Rattle.f2_disk.specs.Disk.{Reads, Goes, Rose};
 ghost use Rattle.f2_view.specs.Mounted.{IsMountOf, layout_in};
 ghost use Rattle.f2_dump.specs.Fields.{field_lines, checkpoint_names};
-ghost use Rattle.f2_dump.specs.Text.{dump_lines, outside as is_outside};
-ghost use Rattle.f2_dump.specs.Dump.{Dumps, Refuses, Sinks, OnlySink};
+ghost use Rattle.f2_dump.specs.Text.{dump_lines, block_lines, outside as is_outside};
+ghost use Rattle.f2_dump.specs.Dump.{Dumps, Refuses, Sinks, OnlySink, IsInside, reading_refusal};
+ghost use Rattle.f2_dump.specs.declared.dumping.DumpRefusal.TheVariants.{DiskFault as Faulted, NoMemory as MemoryShort};
 
+use crate::gathering::{PIECE, put_text};
+use crate::hex::push_rows;
 use crate::lines::push_fields;
 use crate::names::CHECKPOINT_NAMES;
-use crate::ranges::outside;
+use crate::ranges::{end_of, outside};
+use crate::tables::{dump_nodes, dump_segments};
 use f2_bytes::CHECKPOINT;
-use f2_disk::{Disk, Sink};
-use f2_view::Mount;
+use f2_disk::{Block, Disk, DiskFault, Sink};
+use f2_view::{Mount, ViewRefusal};
 use std::alloc::{AllocError, Global};
 use thiserror::Error;
 
@@ -47,26 +51,42 @@ pub enum DumpRefusal {
     OutOfRange(u64),
 }
 
+impl From<ViewRefusal> for DumpRefusal {
+    ghost from_gives = { λ refusal e. e ≡ reading_refusal refusal };
+
+    fn from(refusal: ViewRefusal) -> Self {
+        match refusal {
+            ViewRefusal::DiskFault => DumpRefusal::DiskFault,
+            ViewRefusal::NoMemory => DumpRefusal::NoMemory,
+        }
+    }
+}
+
+impl From<AllocError> for DumpRefusal {
+    ghost from_gives = { λ _ e. e ≡ MemoryShort };
+
+    fn from(_: AllocError) -> Self {
+        DumpRefusal::NoMemory
+    }
+}
+
+impl From<DiskFault> for DumpRefusal {
+    ghost from_gives = { λ _ e. e ≡ Faulted };
+
+    fn from(_: DiskFault) -> Self {
+        DumpRefusal::DiskFault
+    }
+}
+
 // The lines of the checkpoint that counts.
 fn checkpoint_text(alloc: Global, m: &Mount) -> Result<Vec<u8>, AllocError>
-    ensures { IfOk result (λ text. text.items ≡ field_lines checkpoint_names checkpoint_rows m.now.chosen.head) }
+    ensures lines { IfOk result (λ text. text.items ≡ field_lines checkpoint_names checkpoint_rows m.now.chosen.head) }
+    ensures size { IfOk result (λ text. length text.items ≤ PIECE) }
 {
     let mut text = Vec::new(alloc);
     let head = m.chosen().head().block();
     push_fields(&mut text, &CHECKPOINT_NAMES, &CHECKPOINT, head)?;
     Ok(text)
-}
-
-// Puts a text.
-fn put_text<O: Sink>(o: &mut O, text: &[u8]) -> Result<(), DumpRefusal>
-    ensures text { Dumps text.now (O.told o.old) (O.told o.new) result }
-    ensures sink { Sinks (O.faults o.old) (O.faults o.new) result }
-    ensures only { OnlySink result }
-{
-    match o.put(text) {
-        Ok(()) => Ok(()),
-        Err(_) => Err(DumpRefusal::SinkFault),
-    }
 }
 
 // Puts the lines of the checkpoint that counts.
@@ -79,6 +99,38 @@ fn dump_checkpoint<O: Sink>(alloc: Global, m: &Mount, o: &mut O) -> Result<(), D
         Ok(text) => put_text(o, &text),
         Err(_) => Err(DumpRefusal::NoMemory),
     }
+}
+
+// The lines of a block.
+fn block_text(alloc: Global, b: &Block) -> Result<Vec<u8>, AllocError>
+    ensures lines { IfOk result (λ text. text.items ≡ block_lines b.now) }
+    ensures size { IfOk result (λ text. length text.items ≤ PIECE) }
+{
+    let mut text = Vec::new(alloc);
+    push_rows(&mut text, b.bytes())?;
+    Ok(text)
+}
+
+// Puts the lines of the block at this address.
+fn dump_block<D: Disk, O: Sink>(
+    alloc: Global,
+    address: u64,
+    d: &mut D,
+    o: &mut O,
+) -> Result<(), DumpRefusal>
+    requires { address < (D.state d.old).size }
+    ensures lines { (image : Image) → (D.state d.old).told ≡ Some image
+        → Dumps (block_lines (block_at image address)) (O.told o.old) (O.told o.new) result }
+    ensures inside { IsInside result }
+    ensures sink { Sinks (O.faults o.old) (O.faults o.new) result }
+    ensures reads { Reads (D.state d.old) (D.state d.new) }
+    ensures goes { Goes (D.state d.old) (D.state d.new) }
+    ensures fault { IsErrOf result DumpRefusal.DiskFault → Rose (D.state d.old).faults (D.state d.new).faults }
+{
+    let mut block = Block::zeros();
+    d.read(address, &mut block)?;
+    let text = block_text(alloc, &block)?;
+    put_text(o, &text)
 }
 
 /// Puts the lines of what is dumped, in pieces of at most 64 KiB. It writes nothing to the disk.
@@ -107,8 +159,14 @@ pub fn dump<D: Disk, O: Sink>(
     }
     match what {
         What::Cp => dump_checkpoint(alloc, m, o),
-        What::Nat(_, _) => Err(DumpRefusal::NoMemory),
-        What::Sit(_, _) => Err(DumpRefusal::NoMemory),
-        What::Raw(_) => Err(DumpRefusal::NoMemory),
+        What::Nat(first, last) => {
+            let end = end_of(m.nid_limit(), first, last);
+            dump_nodes(alloc, m, first as u32, end, d, o)
+        }
+        What::Sit(first, last) => {
+            let end = end_of(m.layout().segments, first, last);
+            dump_segments(alloc, m, first as u32, end, d, o)
+        }
+        What::Raw(address) => dump_block(alloc, address, d, o),
     }
 }

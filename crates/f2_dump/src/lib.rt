@@ -2,9 +2,16 @@
 #![tactic(auto)]
 
 mod dumping;
+mod entries;
+mod gathering;
+mod hex;
 mod lines;
 mod names;
 mod ranges;
+mod tables;
 
 pub use dumping::{DumpRefusal, What, dump};
 pub use names::checkpoint_names_are_known;
+
+#[cfg(test)]
+mod tests;

@@ -1,5 +1,5 @@
 // The lines of a record's fields.
-ghost use Rattle.std.specs.Prelude.{◌≡◌, ◌++◌, ◌&&◌, nat_le, length, map, IsTrue, OnOk};
+ghost use Rattle.std.specs.Prelude.{◌≡◌, ◌≤◌, ◌+◌, ◌*◌, ◌++◌, ◌&&◌, nat_le, length, map, IsTrue, OnOk};
 ghost use Rattle.std.specs.List.{list_all};
 ghost use Rattle.f2_bytes.specs.Fields.{lies_in};
 ghost use Rattle.f2_dump.specs.Fields.{field_line, field_lines};
@@ -20,7 +20,8 @@ macro_rules! each_field {
 
 // Appends the line of a field.
 fn push_line(text: &mut Vec<u8>, name: &str, number: u64) -> Result<(), AllocError>
-    ensures { OnOk result (text.new.items ≡ text.old.items ++ field_line name.now number) }
+    ensures line { OnOk result (text.new.items ≡ text.old.items ++ field_line name.now number) }
+    ensures size { length text.new.items ≤ length text.old.items + length name.now + 22 }
 {
     let mut buffer = Buffer::new();
     text.extend_from_slice(name.as_bytes())?;
@@ -38,7 +39,9 @@ pub fn push_fields<const N: usize>(
 ) -> Result<(), AllocError>
     requires names { length names.now ≡ N }
     requires rows { IsTrue (list_all (λ row. lies_in 4096 row && nat_le row.width 8) table.now.rows) }
-    ensures { OnOk result (text.new.items ≡ text.old.items ++ field_lines (map (λ name. name.now) names.now) table.now.rows block.now) }
+    requires short { IsTrue (list_all (λ name. nat_le (length name.now) 42) names.now) }
+    ensures lines { OnOk result (text.new.items ≡ text.old.items ++ field_lines (map (λ name. name.now) names.now) table.now.rows block.now) }
+    ensures size { length text.new.items ≤ length text.old.items + 64 * N }
 {
     let bytes = block.bytes();
     each_field!(N, k => push_line(text, names[k], table.get(bytes, k))?);

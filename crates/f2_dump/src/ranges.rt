@@ -1,7 +1,8 @@
 // The ranges of numbers that can be dumped.
-ghost use Rattle.std.specs.Prelude.{◌≡◌};
+ghost use Rattle.std.specs.Prelude.{◌≡◌, ◌≤◌, ◌-◌, None};
+ghost use Rattle.std.specs.List.{range_with_len};
 ghost use Rattle.f2_bytes.specs.Superblock.{IsInOrder};
-ghost use Rattle.f2_dump.specs.Text.{outside as is_outside, outside_of as lies_outside};
+ghost use Rattle.f2_dump.specs.Text.{outside as is_outside, outside_of as lies_outside, numbers_of};
 
 use crate::What;
 use f2_bytes::Layout;
@@ -34,5 +35,18 @@ pub(crate) fn outside(l: &Layout, what: What) -> Option<u64>
         What::Nat(first, last) => outside_of(455 * u64::from(l.nat_half), first, last),
         What::Sit(first, last) => outside_of(u64::from(l.segments), first, last),
         What::Raw(address) => outside_of(l.blocks, address, None),
+    }
+}
+
+// The number past those of a range below a limit.
+pub(crate) fn end_of(limit: u32, first: u64, last: Option<u64>) -> u32
+    requires { lies_outside limit first last ≡ None }
+    ensures numbers { numbers_of limit first last ≡ range_with_len first (result - first) }
+    ensures later { first ≤ result }
+    ensures within { result ≤ limit }
+{
+    match last {
+        None => limit,
+        Some(last) => last as u32 + 1,
     }
 }
