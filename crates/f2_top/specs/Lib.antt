@@ -1,4 +1,5 @@
 pub mod Answers
 pub mod Jobs
+pub mod Numbers
 pub mod Run
 pub mod Text

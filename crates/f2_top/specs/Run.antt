@@ -7,17 +7,17 @@ use Rattle.f2_super.specs.Load.{loaded, repaired}
 use Rattle.f2_super.specs.declared.loading.Found.{Found}
 use Rattle.f2_super.specs.declared.loading.SuperRefusal.{SuperRefusal}
 use Rattle.f2_super.specs.declared.loading.SuperRefusal.TheVariants as load
-use Rattle.f2_view.specs.Mounted.{Mounted}
+use Rattle.f2_view.specs.Mounted.{Mounted, layout_in}
 use Rattle.f2_view.specs.Mounting.{mounted}
 use Rattle.f2_view.specs.declared.mounting.MountRefusal.{MountRefusal}
 use Rattle.f2_view.specs.declared.mounting.MountRefusal.TheVariants as mount
 use Rattle.f2_dump.specs.declared.dumping.What.{What}
-use Rattle.f2_dump.specs.Text.{dump_lines}
+use Rattle.f2_dump.specs.Text.{dump_lines, outside}
 use Rattle.f2_top.specs.Jobs.{takes_memory}
 use Rattle.f2_top.specs.Text.{IsText}
 use Rattle.f2_top.specs.declared.answer.Answer.{Answer}
 use Rattle.f2_top.specs.declared.answer.Answer.TheVariants.{Done, Corrected, DiskFault, SinkFault, Usage, Refused, NoMemory}
-use Rattle.f2_top.specs.declared.answer.Refusal.TheVariants.{NoSuper, Unsupported, TooLarge, Truncated, NoPack, VersionLimit, BadSummary}
+use Rattle.f2_top.specs.declared.answer.Refusal.TheVariants.{NoSuper, Unsupported, TooLarge, Truncated, NoPack, VersionLimit, BadSummary, OutOfRange}
 use Rattle.f2_top.specs.declared.jobs.Job.{Job}
 use Rattle.f2_top.specs.declared.jobs.Job.TheVariants.{Super, Dump}
 
@@ -47,21 +47,26 @@ mount_answer (mount.BadSummary count) = Refused (BadSummary count)
 mount_answer mount.DiskFault = DiskFault
 mount_answer mount.NoMemory = NoMemory
 
--- what a dump answers to what was mounted, without a fault
-abbrev pub dump_answer : Result Mounted MountRefusal → Answer
-dump_answer (Ok m) = Done
-dump_answer (Err refusal) = mount_answer refusal
+-- the answer of a dump, where this number of it lies outside, if any
+abbrev pub range_answer : Option ℕ → Answer
+range_answer None = Done
+range_answer (Some number) = Refused (OutOfRange number)
 
--- and its lines
-abbrev pub mounted_lines : What → Result Mounted MountRefusal → List ℕ
-mounted_lines what (Ok m) = dump_lines m what
-mounted_lines what (Err refusal) = []
+-- what a dump answers to what was mounted, without a fault
+abbrev pub dump_answer : What → Result Mounted MountRefusal → Answer
+dump_answer what (Ok m) = range_answer (outside (layout_in m) what)
+dump_answer what (Err refusal) = mount_answer refusal
+
+-- and its lines, which are those of the image
+abbrev pub mounted_lines : What → Image → Result Mounted MountRefusal → List ℕ
+mounted_lines what image (Ok m) = dump_lines image what
+mounted_lines what image (Err refusal) = []
 
 -- what a job answers on a disk of this many blocks, without a fault and with memory
 abbrev pub answer_of : Option Job → ℕ → Image → Answer
 answer_of None size image = Usage
 answer_of (Some Super) size image = super_answer (loaded size image)
-answer_of (Some (Dump what)) size image = dump_answer (mounted size image)
+answer_of (Some (Dump what)) size image = dump_answer what (mounted size image)
 
 -- the image that it leaves
 abbrev pub image_of : Option Job → ℕ → Image → Image
@@ -70,7 +75,7 @@ image_of job size image = image
 
 -- and its lines: only a dump's are those of an image, which the disk then has to tell
 abbrev pub AreLines : Option Job → State → List ℕ → Type 0
-AreLines (Some (Dump what)) old lines = (image : Image) × (old.told ≡ Some image) × (lines ≡ mounted_lines what (mounted old.size image))
+AreLines (Some (Dump what)) old lines = (image : Image) × (old.told ≡ Some image) × (lines ≡ mounted_lines what image (mounted old.size image))
 AreLines job old lines = lines ≡ []
 
 -- What a job may answer, but for a fault of the sink.
@@ -91,7 +96,7 @@ abbrev pub IsAnswered : Option Job → ℕ → Image → Answer → Type 0
 IsAnswered None size image answer = answer ≡ Usage
 IsAnswered (Some Super) size image answer =
     (answer ≡ super_answer (loaded size image)) × (is_loadable image ≡ true → answer ≡ (if has_twins image then Done else Corrected))
-IsAnswered (Some (Dump what)) size image answer = (answer ≡ dump_answer (mounted size image)) ⊎ (answer ≡ NoMemory)
+IsAnswered (Some (Dump what)) size image answer = (answer ≡ dump_answer what (mounted size image)) ⊎ (answer ≡ NoMemory)
 
 -- What a sink tells that held these bytes before: the text of the answer, or, where the sink failed, a prefix of the text
 -- of an answer that was allowed.

@@ -12,13 +12,13 @@ pub enum Answer {
     SinkFault,
     /// The words name no job.
     Usage,
-    /// The image can't be worked on.
+    /// The job was refused, and nothing was written.
     Refused(Refusal),
     /// Memory ran out.
     NoMemory,
 }
 
-/// Why an image can't be worked on. Nothing was written then.
+/// Why a job is refused: the image can't be worked on, or lacks the number that the words name.
 #[derive(Clone, Copy, Debug, PartialEq, Eq)]
 pub enum Refusal {
     /// Neither superblock copy passes.
@@ -35,6 +35,9 @@ pub enum Refusal {
     VersionLimit(u64),
     /// A journal says this many records: more than 38 of the node address table, or more than 6 of the segment table.
     BadSummary(u32),
+    /// This number is at or past the limit of what can be dumped of the image, or is the first of a range and lies above
+    /// its last.
+    OutOfRange(u64),
 }
 
 impl Answer {

@@ -155,9 +155,19 @@ fn image(
     Ok(disk)
 }
 
-fn dump(alloc: Global, disk: &mut MemoryDisk, out: &mut MemorySink) -> Result<Answer, Fail> {
-    let words = words(alloc, &["dump", "--cp"])?;
+// Runs these words.
+fn answer(
+    alloc: Global,
+    texts: &[&str],
+    disk: &mut MemoryDisk,
+    out: &mut MemorySink,
+) -> Result<Answer, Fail> {
+    let words = words(alloc, texts)?;
     Ok(run(alloc, &words, disk, out, 0, [0; 16]))
+}
+
+fn dump(alloc: Global, disk: &mut MemoryDisk, out: &mut MemorySink) -> Result<Answer, Fail> {
+    answer(alloc, &["dump", "--cp"], disk, out)
 }
 
 #[test]
@@ -227,5 +237,85 @@ fn a_dump_meets_faults(rt: HostRuntime) -> Result<(), Fail> {
     let mut out = MemorySink::new(alloc, [1].to_vec(alloc)?);
     assert_eq!(rt; dump(alloc, &mut disk, &mut out)?, Answer::SinkFault);
     assert!(rt; LINES.as_bytes().starts_with(out.bytes()));
+    Ok(())
+}
+
+// Dumps of numbers that the image lacks, which has 232,960 nids, 24 main segments and 16,384 blocks.
+const OUTSIDE: [(&str, &str, u64, &str); 14] = [
+    ("-n", "232960~-1", 232_960, "refused 14 OutOfRange 232960\n"),
+    ("-n", "0~232960", 232_960, "refused 14 OutOfRange 232960\n"),
+    (
+        "-n",
+        "232960~232961",
+        232_960,
+        "refused 14 OutOfRange 232960\n",
+    ),
+    (
+        "-n",
+        "232962~232961",
+        232_962,
+        "refused 14 OutOfRange 232962\n",
+    ),
+    ("-n", "5~4", 5, "refused 14 OutOfRange 5\n"),
+    ("-n", "300000~4", 300_000, "refused 14 OutOfRange 300000\n"),
+    ("-s", "24~-1", 24, "refused 14 OutOfRange 24\n"),
+    ("-s", "0~24", 24, "refused 14 OutOfRange 24\n"),
+    ("-s", "24~25", 24, "refused 14 OutOfRange 24\n"),
+    ("-s", "0x17~0", 23, "refused 14 OutOfRange 23\n"),
+    (
+        "-s",
+        "0~4294967296",
+        4_294_967_296,
+        "refused 14 OutOfRange 4294967296\n",
+    ),
+    ("--block", "16384", 16384, "refused 14 OutOfRange 16384\n"),
+    ("--block", "0x4000", 16384, "refused 14 OutOfRange 16384\n"),
+    (
+        "--block",
+        "18446744073709551615",
+        18_446_744_073_709_551_615,
+        "refused 14 OutOfRange 18446744073709551615\n",
+    ),
+];
+
+#[test]
+fn numbers_outside_are_refused(rt: HostRuntime) -> Result<(), Fail> {
+    let alloc = rt.alloc();
+    for (option, value, number, text) in OUTSIDE {
+        let mut disk = image(alloc, &[], 7, 8, 0)?;
+        let mut out = MemorySink::new(alloc, Vec::new(alloc));
+        let answer = answer(alloc, &["dump", option, value], &mut disk, &mut out)?;
+        assert_eq!(rt;
+            answer,
+            Answer::Refused(Refusal::OutOfRange(number)),
+            "{value}"
+        );
+        assert_eq!(rt; answer.status(), 20);
+        assert_eq!(rt; out.bytes(), text.as_bytes());
+        assert_eq!(rt; disk.writes(), 7);
+    }
+    Ok(())
+}
+
+// Dumps of the least and greatest numbers that it has.
+const INSIDE: [(&str, &str); 6] = [
+    ("-n", "0~0"),
+    ("-n", "232959~232959"),
+    ("-s", "0~23"),
+    ("-s", "23~-1"),
+    ("--block", "0"),
+    ("--block", "16383"),
+];
+
+#[test]
+fn numbers_inside_are_not_refused(rt: HostRuntime) -> Result<(), Fail> {
+    let alloc = rt.alloc();
+    for (option, value) in INSIDE {
+        let mut disk = image(alloc, &[], 7, 8, 0)?;
+        let mut out = MemorySink::new(alloc, Vec::new(alloc));
+        let answer = answer(alloc, &["dump", option, value], &mut disk, &mut out)?;
+        assert!(rt; !matches!(answer, Answer::Refused(_)), "{value}");
+        assert_eq!(rt; disk.writes(), 7);
+    }
     Ok(())
 }

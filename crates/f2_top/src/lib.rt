@@ -5,6 +5,7 @@
 mod answer;
 mod dumps;
 mod jobs;
+mod numbers;
 mod report;
 mod super_copies;
 mod top;
@@ -17,3 +18,5 @@ pub use top::run;
 mod dump_tests;
 #[cfg(test)]
 mod tests;
+#[cfg(test)]
+mod word_tests;

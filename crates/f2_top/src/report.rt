@@ -43,6 +43,7 @@ fn put_refusal<O: Sink>(out: &mut O, refusal: &Refusal) -> Result<(), SinkFault>
         Refusal::BadSummary(count) => {
             put_number(out, b"refused 7 BadSummary ", u64::from(*count), b"\n")
         }
+        Refusal::OutOfRange(number) => put_number(out, b"refused 14 OutOfRange ", *number, b"\n"),
     }
 }
 

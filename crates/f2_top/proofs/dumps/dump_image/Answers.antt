@@ -1,21 +1,71 @@
-use Rattle.std.proofs.Common.{◌≡◌, ◌++◌, ℕ, List, take, Option, Some, Ok, Result, ap}
+use Rattle.std.proofs.Common.{◌≡◌, ◌≢◌, ◌∙◌, ◌++◌, ℕ, List, [], take, Option, Some, None, Ok, Err, Result, ap, sym, refl, subst, inl}
+use Rattle.std.proofs.lemmas.List.{append-nil}
+use Rattle.f2_bytes.specs.Bytes.{Image}
 use Rattle.f2_view.specs.Mounted.{Mounted}
+use Rattle.f2_view.specs.Mounting.{mounted}
 use Rattle.f2_view.specs.declared.mounting.MountRefusal.{MountRefusal}
+use Rattle.f2_view.specs.declared.mounting.MountRefusal.TheVariants as mount
+use Rattle.f2_dump.specs.Dump.{Refuses}
+use Rattle.f2_dump.specs.declared.dumping.DumpRefusal.{DumpRefusal}
+use Rattle.f2_dump.specs.declared.dumping.DumpRefusal.TheVariants.{OutOfRange}
 use Rattle.f2_dump.specs.declared.dumping.What.{What}
 use Rattle.f2_dump.specs.Text.{dump_lines}
-use Rattle.f2_top.specs.Run.{mounted_lines}
+use Rattle.f2_top.specs.Run.{range_answer, mount_answer, dump_answer, mounted_lines}
+use Rattle.f2_top.specs.Text.{IsFront}
+use Rattle.f2_top.specs.declared.answer.Answer.TheVariants.{Done}
 use Rattle.f2_top.proofs.dumps.dump_image.Goals as goal
 
 -- a dump that ended early put a prefix of the lines
-cut : (what : What) (m : Mounted) (is : Result Mounted MountRefusal) (had : List ℕ) (told : Option (List ℕ)) → Ok m ≡ is → ((n : ℕ) × (told ≡ Some (had ++ take n (dump_lines m what))))
-    → (text : List ℕ) × ((n : ℕ) × (text ≡ take n (mounted_lines what is))) × (told ≡ Some (had ++ text))
-cut what m is had told same part = (take part.0 (dump_lines m what), (part.0, ap (λ r. take part.0 (mounted_lines what r)) same), part.1)
+cut : (what : What) (image : Image) (m : Mounted) (is : Result Mounted MountRefusal) (had : List ℕ) (told : Option (List ℕ)) → Ok m ≡ is → ((n : ℕ) × (told ≡ Some (had ++ take n (dump_lines image what))))
+    → (text : List ℕ) × ((n : ℕ) × (text ≡ take n (mounted_lines what image is))) × (told ≡ Some (had ++ text))
+cut what image m is had told same part = (take part.0 (dump_lines image what), (part.0, ap (λ r. take part.0 (mounted_lines what image r)) same), part.1)
 
 pub returns-in-Err-DiskFault-clause-lines : goal.returns-in-Err-DiskFault-clause-lines
-returns-in-Err-DiskFault-clause-lines g c = λ had told image told'. cut c.args.what c.in-Ok.m _ had _ (c.in-Ok.ensures.exact image told') (c.dump.ensures.lines.part had told)
+returns-in-Err-DiskFault-clause-lines g c = λ had told image told'. let reads = c.mount.ensures.reads in cut c.args.what image c.in-Ok.m _ had _ (c.in-Ok.ensures.exact image told') ((c.dump.ensures.lines image (reads.told ∙ told') (c.in-Ok.ensures.of_image image told')).part had told)
 
 pub returns-in-Err-SinkFault-clause-lines : goal.returns-in-Err-SinkFault-clause-lines
-returns-in-Err-SinkFault-clause-lines g c = λ had told image told'. cut c.args.what c.in-Ok.m _ had _ (c.in-Ok.ensures.exact image told') (c.dump.ensures.lines.part had told)
+returns-in-Err-SinkFault-clause-lines g c = λ had told image told'. let reads = c.mount.ensures.reads in cut c.args.what image c.in-Ok.m _ had _ (c.in-Ok.ensures.exact image told') ((c.dump.ensures.lines image (reads.told ∙ told') (c.in-Ok.ensures.of_image image told')).part had told)
+
+pub returns-in-Err-NoMemory-clause-lines : goal.returns-in-Err-NoMemory-clause-lines
+returns-in-Err-NoMemory-clause-lines g c = λ had told image told'. let reads = c.mount.ensures.reads in cut c.args.what image c.in-Ok.m _ had _ (c.in-Ok.ensures.exact image told') ((c.dump.ensures.lines image (reads.told ∙ told') (c.in-Ok.ensures.of_image image told')).part had told)
+
+-- a dump that refused no number had none that lies outside
+inside : {T : Type 0} (outside : Option ℕ) (old new : Option (List ℕ)) (result : Result T DumpRefusal) → Refuses outside old new result → ((n : ℕ) → result ≢ Err (OutOfRange n)) → range_answer outside ≡ Done
+inside None old new result refuses other = refl
+inside (Some n) old new result refuses other = absurd (other n ((refuses.exact n).1 refl))
+
+pub returns-in-Ok-dump-clause-exact : goal.returns-in-Ok-dump-clause-exact
+returns-in-Ok-dump-clause-exact g c = λ image told.
+    inl (sym (inside _ _ _ c.dump.result c.dump.ensures.range (λ n is. cc)) ∙ ap (λ r. dump_answer c.args.what r) (c.in-Ok.ensures.exact image told))
+
+pub returns-in-Err-SinkFault-clause-sink_fault : goal.returns-in-Err-SinkFault-clause-sink_fault
+returns-in-Err-SinkFault-clause-sink_fault g c = λ image told fault.
+    ap (λ r. dump_answer c.args.what r) (sym (c.in-Ok.ensures.exact image told)) ∙ inside _ _ _ c.dump.result c.dump.ensures.range (λ n is. cc)
+
+-- a number that lies outside was refused, and nothing was put
+pub returns-in-Ok-clause-exact : goal.returns-in-Ok-clause-exact
+returns-in-Ok-clause-exact g c = λ image told.
+    inl (ap range_answer (sym ((c.dump.ensures.range.exact c.in-Err-OutOfRange.number).0 (cc))) ∙ ap (λ r. dump_answer c.args.what r) (c.in-Ok.ensures.exact image told))
 
 pub returns-in-Ok-clause-lines : goal.returns-in-Ok-clause-lines
-returns-in-Ok-clause-lines g c = λ had told image told'. cut c.args.what c.in-Ok.m _ had _ (c.in-Ok.ensures.exact image told') (c.dump.ensures.lines.part had told)
+returns-in-Ok-clause-lines g c = λ had told image told'.
+    ([], refl, c.dump.ensures.range.nothing c.in-Err-OutOfRange.number (cc) ∙ told ∙ ap (λ (l : List ℕ). Some l) (sym (append-nil had)))
+
+-- an image that can't be mounted has no lines
+unmounted : (lines : List ℕ) (refusal : MountRefusal) → IsFront lines (mount_answer refusal) []
+unmounted lines mount.NoSuper = refl
+unmounted lines (mount.Unsupported bits) = refl
+unmounted lines (mount.TooLarge blocks) = refl
+unmounted lines (mount.Truncated blocks held) = refl
+unmounted lines mount.NoPack = refl
+unmounted lines (mount.VersionLimit version) = refl
+unmounted lines (mount.BadSummary count) = refl
+unmounted lines mount.DiskFault = (0, refl)
+unmounted lines mount.NoMemory = (0, refl)
+
+pub returns-clause-lines : goal.returns-clause-lines
+returns-clause-lines g c = λ had told image told'. (
+  [],
+  subst (λ a. IsFront (mounted_lines c.args.what image (mounted (g.D.Disk.state c.args.disk.now).size image)) a []) (sym c.refused.ensures) (unmounted _ c.in-Err.refusal),
+  told ∙ ap (λ (l : List ℕ). Some l) (sym (append-nil had)),
+)

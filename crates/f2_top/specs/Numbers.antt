@@ -1,0 +1,31 @@
+-- The texts of numbers and of ranges.
+use Rattle.std.specs.Prelude.{ℕ, ◌^◌, Bool, ◌&&◌, ◌==◌, nat_eq, nat_lt, if◌then◌else◌, List, length, drop, codes, bytes_eq, Option, Some, None, option_map}
+use Rattle.std.specs.Char.{digit_value}
+use Rattle.std.specs.List.{list_all, starts_with, before_first, after_first}
+use Rattle.std.specs.Option.{option_and_then}
+use Rattle.std.specs.Str.Parse.{digits_value}
+
+-- one digit or more of this base, in either case, and nothing else
+abbrev pub is_numeral : ℕ → List ℕ → Bool
+is_numeral base text = nat_lt 0 (length text) && list_all (λ b. nat_lt (digit_value b) base) text
+
+-- the number that the digits write in this base, where it has at most 64 bits
+unfoldable pub numeral_of : ℕ → List ℕ → Option ℕ
+numeral_of base text = if is_numeral base text && nat_lt (digits_value base text) (2 ^ 64) then Some (digits_value base text) else None
+
+-- the number that a text writes: hexadecimal digits after `0x`, or decimal ones
+unfoldable pub number_of : List ℕ → Option ℕ
+number_of text = if starts_with nat_eq text (codes "0x") then numeral_of 16 (drop 2 text) else numeral_of 10 text
+
+-- the last number of a range: `-1` is none, so that the range has no end
+unfoldable pub end_of : List ℕ → Option (Option ℕ)
+end_of text = if bytes_eq text (codes "-1") then Some None else option_map (λ n. Some n) (number_of text)
+
+-- a tilde
+abbrev pub is_tilde : ℕ → Bool
+is_tilde b = b == 126
+
+-- the range that a text writes: its first number, a tilde, and its last one
+unfoldable pub range_of : List ℕ → Option (ℕ × Option ℕ)
+range_of text =
+    option_and_then (λ first. option_map (λ last. (first, last)) (end_of (after_first is_tilde text))) (number_of (before_first is_tilde text))
