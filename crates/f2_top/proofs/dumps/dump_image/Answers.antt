@@ -1,6 +1,7 @@
 use Rattle.std.proofs.Common.{◌≡◌, ◌≢◌, ◌∙◌, ◌++◌, ℕ, List, [], take, Option, Some, None, Ok, Err, Result, ap, sym, refl, subst, inl}
 use Rattle.std.proofs.lemmas.List.{append-nil}
 use Rattle.f2_bytes.specs.Bytes.{Image}
+use Rattle.f2_disk.proofs.Runs.{reads_then}
 use Rattle.f2_view.specs.Mounted.{Mounted}
 use Rattle.f2_view.specs.Mounting.{mounted}
 use Rattle.f2_view.specs.declared.mounting.MountRefusal.{MountRefusal}
@@ -33,6 +34,9 @@ returns-in-Err-NoMemory-clause-lines g c = λ had told image told'. let reads = 
 inside : {T : Type 0} (outside : Option ℕ) (old new : Option (List ℕ)) (result : Result T DumpRefusal) → Refuses outside old new result → ((n : ℕ) → result ≢ Err (OutOfRange n)) → range_answer outside ≡ Done
 inside None old new result refuses other = refl
 inside (Some n) old new result refuses other = absurd (other n ((refuses.exact n).1 refl))
+
+pub returns-in-Ok-dump-clause-reads : goal.returns-in-Ok-dump-clause-reads
+returns-in-Ok-dump-clause-reads g c = reads_then c.mount.ensures.goes.later c.mount.ensures.reads c.dump.ensures.reads
 
 pub returns-in-Ok-dump-clause-exact : goal.returns-in-Ok-dump-clause-exact
 returns-in-Ok-dump-clause-exact g c = λ image told.
