@@ -1,5 +1,5 @@
 // A text that is gathered line by line, and put in pieces.
-ghost use Rattle.std.specs.Prelude.{◌≡◌, ◌≤◌, ◌⊎◌, List, ℕ, [], ◌++◌, length, OnOk, IfErr};
+ghost use Rattle.std.specs.Prelude.{◌≡◌, ◌≤◌, List, ℕ, [], ◌++◌, length, OnOk, IfErr};
 ghost use Rattle.f2_dump.specs.Dump.{Dumps, Gathers, Ends, Sinks, OnlySink};
 
 use crate::DumpRefusal;
@@ -63,7 +63,7 @@ pub(crate) fn keep<O: Sink>(
     }
 }
 
-// Puts what is left of a text, and ends with this answer.
+// Puts what is left of a text, also after a refusal, and ends with this answer.
 pub(crate) fn finish<O: Sink>(
     text: &[u8],
     o: &mut O,

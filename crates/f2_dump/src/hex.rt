@@ -1,6 +1,5 @@
 // Hexadecimal digits, and the lines of a block.
 ghost use Rattle.std.specs.Prelude.{◌≡◌, ◌≤◌, ◌<◌, ◌+◌, ◌*◌, ◌++◌, length, OnOk};
-ghost use Rattle.f2_bytes.specs.Bytes.{IsBlock};
 ghost use Rattle.f2_dump.specs.Text.{hex_digit as digit_of, hex_bytes, row_line, block_lines};
 
 use std::alloc::AllocError;
