@@ -7,13 +7,11 @@ This is printed, and nothing fails where it is not so.
 """
 import os
 import shutil
-import statistics
-import subprocess
 import sys
 import tempfile
 
 sys.dont_write_bytecode = True
-from measuring import BLOCK, PROGRAM, SIZES, count_calls, lay_out_images, need_program, print_row, start
+from measuring import PROGRAM, SIZES, count_calls, lay_out_images, make_image, mean_start, medians, need_program, print_row
 
 os.environ["PATH"] += ":/usr/sbin:/sbin"
 SIDES = ("dump --cp", "dump.f2fs")
@@ -25,34 +23,13 @@ def words_of(side, image):
     return [PROGRAM, image, "dump", "--cp"] if side == "dump --cp" else [shutil.which(side), image]
 
 
-def make(image, blocks):
-    with open(image, "wb") as file:
-        file.truncate(blocks * BLOCK)
-    subprocess.run(["mkfs.f2fs", "-q", "-f", image], check=True, stdout=subprocess.DEVNULL)
-
-
-def sample(side, image):
-    """The mean time of a start, in milliseconds."""
-    return sum(start(words_of(side, image), 0) for _ in range(STARTS)) * 1000 / STARTS
-
-
-def measure(images):
-    """The median of the samples by side and size. Both alternate, so that what slows the machine slows all."""
-    pairs = [(side, size) for size in images for side in SIDES]
-    found = {pair: [] for pair in pairs}
-    for number in range(SAMPLES):
-        for side, size in pairs if number % 2 == 0 else pairs[::-1]:
-            found[side, size].append(sample(side, images[size]))
-    return {pair: statistics.median(samples) for pair, samples in found.items()}
-
-
-def print_times(medians):
+def print_times(times):
     print_row("time of a start", *SIZES, "ratio", "wanted")
     for side in SIDES:
-        small, large = (medians[side, size] for size in SIZES)
+        small, large = (times[side, size] for size in SIZES)
         wanted = "below 1.5" if side == "dump --cp" else ""
         print_row(side, f"{small:.3f} ms", f"{large:.3f} ms", f"{large / small:.3f}", wanted)
-    ratios = (medians["dump --cp", size] / medians["dump.f2fs", size] for size in SIZES)
+    ratios = (times["dump --cp", size] / times["dump.f2fs", size] for size in SIZES)
     print_row("dump --cp / dump.f2fs", *(f"{ratio:.4f}" for ratio in ratios), "", "at most 1")
 
 
@@ -73,11 +50,12 @@ def main():
         return
     with tempfile.TemporaryDirectory(prefix="f2tools.") as folder:
         folder = os.path.realpath(folder)
-        images = lay_out_images(folder, make)
+        images = lay_out_images(folder, make_image)
 
         print(f"{os.cpu_count()} cores; medians of {SAMPLES} samples of {STARTS} starts each")
         print()
-        print_times(measure(images))
+        cases = [(side, size) for size in images for side in SIDES]
+        print_times(medians(cases, lambda side, size: mean_start(words_of(side, images[size]), STARTS), SAMPLES))
 
         print()
         if shutil.which("strace") is None:

@@ -1,6 +1,7 @@
-"""What the benchmarks share: the program, the sizes, one start of a program, and its calls on an image."""
+"""What the benchmarks share: the program, the images, one start of a program, and its calls on an image."""
 import os
 import re
+import statistics
 import subprocess
 import sys
 import time
@@ -28,6 +29,21 @@ def lay_out_images(folder, lay_out):
     return images
 
 
+def make_image(image, blocks):
+    with open(image, "wb") as file:
+        file.truncate(blocks * BLOCK)
+    subprocess.run(["mkfs.f2fs", "-q", "-f", image], check=True, stdout=subprocess.DEVNULL)
+
+
+def medians(cases, sample, count):
+    """The median of `sample(*case)` by case. The order alternates, so that what slows the machine slows all."""
+    found = {case: [] for case in cases}
+    for number in range(count):
+        for case in cases if number % 2 == 0 else cases[::-1]:
+            found[case].append(sample(*case))
+    return {case: statistics.median(samples) for case, samples in found.items()}
+
+
 def start(words, wanted):
     """Starts a program once, and answers the seconds until its end, which has to be with this status."""
     output = (os.POSIX_SPAWN_OPEN, 1, os.devnull, os.O_WRONLY, 0)
@@ -38,6 +54,11 @@ def start(words, wanted):
     if status != wanted:
         sys.exit(f"{' '.join(words)} ended with status {status}, and not {wanted}")
     return seconds
+
+
+def mean_start(words, count):
+    """The mean time of so many starts that end well, in milliseconds."""
+    return sum(start(words, 0) for _ in range(count)) * 1000 / count
 
 
 def count_calls(words, wanted, image, log):

@@ -6,12 +6,11 @@ printed, and nothing fails where it is not so.
 """
 import os
 import shutil
-import statistics
 import sys
 import tempfile
 
 sys.dont_write_bytecode = True
-from measuring import PROGRAM, SIZES, TOP, count_calls, lay_out_images, need_program, print_row, start
+from measuring import PROGRAM, SIZES, TOP, count_calls, lay_out_images, medians, need_program, print_row, start
 
 sys.path.insert(0, f"{TOP}/scripts")
 from superblock_image import COPY_LENGTH, COPY_START, lay_out
@@ -43,17 +42,6 @@ def sample(image, case):
     return seconds * 1000 / STARTS
 
 
-def measure(images):
-    """The median of the samples by case and size. Sizes alternate, so that what slows the machine slows both."""
-    found = {(case, size): [] for case in STATUSES for size in images}
-    for number in range(SAMPLES):
-        order = list(images) if number % 2 == 0 else list(images)[::-1]
-        for case in STATUSES:
-            for size in order:
-                found[case, size].append(sample(images[size], case))
-    return {key: statistics.median(samples) for key, samples in found.items()}
-
-
 def print_calls(image, case, size, log):
     if case == "corrected":
         zero_first_copy(image)
@@ -70,9 +58,10 @@ def main():
         print(f"{os.cpu_count()} cores; medians of {SAMPLES} samples of {STARTS} starts each")
         print()
         print_row("time of a start", *SIZES, "ratio", "wanted")
-        medians = measure(images)
+        cases = [(case, size) for case in STATUSES for size in SIZES]
+        times = medians(cases, lambda case, size: sample(images[size], case), SAMPLES)
         for case in STATUSES:
-            small, large = (medians[case, size] for size in SIZES)
+            small, large = (times[case, size] for size in SIZES)
             print_row(case, f"{small:.3f} ms", f"{large:.3f} ms", f"{large / small:.3f}", "below 1.2")
 
         print()

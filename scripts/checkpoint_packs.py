@@ -8,9 +8,8 @@ import struct
 import sys
 
 sys.dont_write_bytecode = True
-from superblock_image import BLOCK, COPY_START, MAGIC, SEGMENT, checksum
+from superblock_image import BLOCK, COPY_LENGTH, COPY_START, MAGIC, SEGMENT, checksum
 
-CP_BLKADDR = COPY_START + 76
 FORMATS = {1: "<B", 2: "<H", 4: "<I", 8: "<Q"}
 FIELDS = [  # of struct f2fs_checkpoint: name, offset, width, and how many there are
     ("checkpoint_ver", 0, 8, 1),
@@ -80,14 +79,19 @@ def sealed(block):
     return block[:at] + struct.pack("<I", checksum(block[:at])) + block[at + 4 :]
 
 
+def first_copy(image):
+    """The bytes of the first superblock copy."""
+    image.seek(COPY_START)
+    copy = image.read(COPY_LENGTH)
+    if number_at(copy, 0) != MAGIC:
+        sys.exit("the first superblock copy is bad")
+    return copy
+
+
 class Pack:
     def __init__(self, image, number):
-        image.seek(0)
-        copy = image.read(BLOCK)
-        if number_at(copy, COPY_START) != MAGIC:
-            sys.exit("the first superblock copy is bad")
         self.image = image
-        self.first = number_at(copy, CP_BLKADDR) + number * SEGMENT
+        self.first = number_at(first_copy(image), 76) + number * SEGMENT
         self.head = self.read(0)
         self.last = number_at(self.head, 136) - 1
         self.tail = self.read(self.last) if self.last in range(SEGMENT) else bytes(BLOCK)
@@ -126,6 +130,14 @@ class Pack:
         self.write(0, sealed(bytes(head)))
 
 
+def packs_of(image):
+    """Both packs, and the one that counts, if any."""
+    packs = [Pack(image, number) for number in (0, 1)]
+    valid = [pack for pack in packs if pack.is_valid()]
+    # the first pack goes before the second at a tie
+    return packs, max(valid, key=lambda pack: version(pack.head), default=None)
+
+
 def main():
     words = argparse.ArgumentParser(description=__doc__)
     words.add_argument("image", metavar="IMAGE")
@@ -136,19 +148,17 @@ def main():
     given = words.parse_args()
     changes = given.destroy or given.raise_other or given.mark
     with open(given.image, "r+b" if changes else "rb") as image:
-        packs = [Pack(image, number) for number in (0, 1)]
-        valid = [pack for pack in packs if pack.is_valid()]
-        if not valid:
+        packs, counting = packs_of(image)
+        if counting is None:
             print("refused 5 NoPack")
             sys.exit(1)
-        # the first pack goes before the second at a tie
-        counting = max(valid, key=lambda pack: version(pack.head))
         if given.destroy:
             counting.destroy(given.destroy)
         elif given.raise_other:
-            if len(valid) < 2:
+            other = packs[1 - packs.index(counting)]
+            if not other.is_valid():
                 sys.exit(1)
-            packs[1 - packs.index(counting)].give_version(version(counting.head) + 1)
+            other.give_version(version(counting.head) + 1)
         elif given.mark:
             counting.mark()
         else:

@@ -4,6 +4,7 @@ source "$(dirname "$0")/expect.bash"
 
 image=$tmp/image
 usage='usage: f2tools IMAGE TOOL OPTIONS'
+dumps=('dump --cp' 'dump -n 0~-1' 'dump -s 0~-1' 'dump --block 0')
 
 lay_out() {
     python3 "$top/scripts/superblock_image.py" "$@"
@@ -16,54 +17,66 @@ expect_unchanged() {
     expect_same "$1" "$image" "$tmp/before"
 }
 
-# expect_answer NAME STATUS TEXT: what `fsck --super` answers to the image, which keeps its bytes.
-expect_answer() {
-    expect_unchanged "$@" "$program" "$image" fsck --super
+# expect_refusal NAME TEXT [JOB..]: what these jobs, or all, answer to the image, which keeps its bytes.
+expect_refusal() {
+    local name=$1 text=$2 job
+    shift 2
+    (($# > 0)) || set -- 'fsck --super' "${dumps[@]}"
+    cp --sparse=always "$image" "$tmp/before"
+    for job; do
+        # $job is some words
+        # shellcheck disable=SC2086
+        expect "$name: $job" 20 "$text" "$program" "$image" $job
+    done
+    expect_same "$name" "$image" "$tmp/before"
 }
 
 check_lengths() {
     lay_out "$tmp/good" 16384
     : >"$image"
-    expect_answer 'an empty file' 20 'refused 1 NoSuper'
+    expect_refusal 'an empty file' 'refused 1 NoSuper'
     head -c 2000 "$tmp/good" >"$image"
-    expect_answer 'part of a copy' 20 'refused 1 NoSuper'
+    expect_refusal 'part of a copy' 'refused 1 NoSuper'
     head -c 4095 "$tmp/good" >"$image"
-    expect_answer 'a byte less than a block' 20 'refused 1 NoSuper'
+    expect_refusal 'a byte less than a block' 'refused 1 NoSuper'
     head -c 4096 "$tmp/good" >"$image"
-    expect_answer 'one block' 20 'refused 4 Truncated 16384 1'
+    expect_refusal 'one block' 'refused 4 Truncated 16384 1'
     head -c 5000 "$tmp/good" >"$image"
-    expect_answer 'a block and a part of one' 20 'refused 4 Truncated 16384 1'
+    expect_refusal 'a block and a part of one' 'refused 4 Truncated 16384 1'
     head -c 8191 "$tmp/good" >"$image"
-    expect_answer 'a byte less than two blocks' 20 'refused 4 Truncated 16384 1'
+    expect_refusal 'a byte less than two blocks' 'refused 4 Truncated 16384 1'
     head -c 8192 "$tmp/good" >"$image"
-    expect_answer 'two blocks' 20 'refused 4 Truncated 16384 2'
+    expect_refusal 'two blocks' 'refused 4 Truncated 16384 2'
     cp --sparse=always "$tmp/good" "$image"
     truncate -s -1 "$image"
-    expect_answer 'a byte less than the image' 20 'refused 4 Truncated 16384 16383'
+    expect_refusal 'a byte less than the image' 'refused 4 Truncated 16384 16383'
 
     lay_out "$tmp/good" 16384 --zero-first
     head -c 8191 "$tmp/good" >"$image"
-    expect_answer 'the only good copy past the last whole block' 20 'refused 1 NoSuper'
+    expect_refusal 'the only good copy past the last whole block' 'refused 1 NoSuper'
     cp --sparse=always "$tmp/good" "$image"
     truncate -s -1 "$image"
-    expect_answer 'a byte less than an image with one good copy' 20 'refused 4 Truncated 16384 16383'
+    expect_refusal 'a byte less than an image with one good copy' 'refused 4 Truncated 16384 16383'
 }
 
 check_contents() {
     head -c 100000 /dev/urandom >"$image"
-    expect_answer 'noise' 20 'refused 1 NoSuper'
+    expect_refusal 'noise' 'refused 1 NoSuper'
     lay_out "$image" 16384 --zero-first --zero-second
-    expect_answer 'both copies all zeros' 20 'refused 1 NoSuper'
+    expect_refusal 'both copies all zeros' 'refused 1 NoSuper'
     lay_out "$image" 16384 --feature 1
-    expect_answer 'an unknown feature' 20 'refused 2 Unsupported 1'
+    expect_refusal 'an unknown feature' 'refused 2 Unsupported 1'
     lay_out "$image" 16384 --feature ffffffff --zero-first
-    expect_answer 'all features, in the second copy alone' 20 'refused 2 Unsupported 4294964735'
+    expect_refusal 'all features, in the second copy alone' 'refused 2 Unsupported 4294964735'
     # both superblock copies are good, and there is no checkpoint
     lay_out "$image" 16384
-    expect_unchanged 'no checkpoint pack' 20 'refused 5 NoPack' "$program" "$image" dump --cp
+    expect_refusal 'no checkpoint pack' 'refused 5 NoPack' "${dumps[@]}"
+    # without a pack, no number is looked at
+    expect_refusal 'neither a checkpoint pack nor the number' 'refused 5 NoPack' \
+        'dump -n 7~5' 'dump -s 16384~16384' 'dump --block 16384'
     if lay_out "$image" 268435457 >/dev/null 2>&1; then
         truncate -s 8192 "$image"
-        expect_answer 'more than 1 TiB' 20 'refused 3 TooLarge 268435457'
+        expect_refusal 'more than 1 TiB' 'refused 3 TooLarge 268435457'
     else
         echo "skipped: an image of more than 1 TiB: the folder for temporary files takes none"
     fi
@@ -72,8 +85,8 @@ check_contents() {
 check_names() {
     local job
     mkdir "$tmp/folder"
-    for job in 'fsck --super' 'dump --cp'; do
-        # $job is two words
+    for job in 'fsck --super' "${dumps[@]}"; do
+        # $job is some words
         # shellcheck disable=SC2086
         {
             expect "$job: a folder" 8 'disk fault' "$program" "$tmp/folder" $job
@@ -139,7 +152,7 @@ sys.exit(subprocess.run(sys.argv[1:], stdout=writer).returncode)' "$@"
 }
 
 check_outputs() {
-    local output
+    local output job
     # where standard output is closed, the image itself could be opened in its place
     for output in output_closed all_closed output_full output_unread; do
         lay_out "$image" 16384
@@ -151,7 +164,10 @@ check_outputs() {
         lay_out "$image" 16384 --zero-first --zero-second
         expect_unchanged "$output: refused" 9 '' "$output" "$program" "$image" fsck --super
         lay_out "$image" 16384
-        expect_unchanged "$output: a dump" 9 '' "$output" "$program" "$image" dump --cp
+        for job in "${dumps[@]}"; do
+            # shellcheck disable=SC2086
+            expect_unchanged "$output: $job" 9 '' "$output" "$program" "$image" $job
+        done
         expect_unchanged "$output: usage" 9 '' "$output" "$program" "$image" fsck
         expect "$output: disk fault" 9 '' "$output" "$program" "$tmp/missing" fsck --super
         expect "$output: no words" 9 '' "$output" "$program"
@@ -192,10 +208,35 @@ check_words() {
     expect_same 'a name that is not UTF-8' "$image" "$tmp/"$'image\xff'
 }
 
+# Words that are no number and no range of numbers below 2^64.
+check_numbers() {
+    local option word
+    local words=('' ' ' - -1 + 0x 0X5 +5 5. 1e3 ' 5' '5 ' 5x a 18446744073709551616 0x10000000000000000 $'5\xff' ٥
+        '~' '3~' '~5' '-1~5' '-1~-1' '3~-2' '3~+5' '3~5~7' 3-5 '3 ~ 5' ' 3~5' '3~5 ' $'3~5\n' a~b '3~5x' '3~0x' '3~0X5'
+        '0~18446744073709551616' '18446744073709551616~-1' '3~-18446744073709551615' $'3~5\xff' '3~٥')
+    lay_out "$image" 16384 --zero-first
+    cp --sparse=always "$image" "$tmp/before"
+    for option in -n -s --block; do
+        for word in "${words[@]}"; do
+            expect "$option: '$word'" 16 "$usage" "$program" "$image" dump "$option" "$word"
+        done
+        expect "$option: no number" 16 "$usage" "$program" "$image" dump "$option"
+        expect "$option: a word too many" 16 "$usage" "$program" "$image" dump "$option" '3~5' '3~5'
+        expect "$option: both words in one" 16 "$usage" "$program" "$image" dump "$option 3"
+        expect "$option: the words turned" 16 "$usage" "$program" "$image" dump 3 "$option"
+        expect "$option: the option of another tool" 16 "$usage" "$program" "$image" fsck "$option" 3
+    done
+    expect '-n: a number' 16 "$usage" "$program" "$image" dump -n 3
+    expect '-s: a number' 16 "$usage" "$program" "$image" dump -s 3
+    expect '--block: a range' 16 "$usage" "$program" "$image" dump --block '3~5'
+    expect_same 'numbers' "$image" "$tmp/before"
+}
+
 check_lengths
 check_contents
 check_names
 check_permissions
 check_outputs
 check_words
+check_numbers
 finish
