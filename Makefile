@@ -20,6 +20,7 @@ test:
 bench: build
 	bench/super_copies.py
 	bench/dump_cp.py
+	bench/dump_tables.py
 
 install: build
 	install -D -m 755 $(PROGRAM) $(DESTDIR)$(PREFIX)/bin/f2tools

@@ -1,5 +1,5 @@
 -- What a file means as a disk: its length and its counts. It tells nothing of content.
-use Rattle.std.specs.Prelude.{◌≡◌, ℕ, Bool, true, false, None, Some, Option}
+use Rattle.std.specs.Prelude.{◌≡◌, ℕ, Bool, true, false, None, Some}
 use Rattle.f2_bytes.specs.Bytes.{Image}
 use Rattle.f2_disk.specs.Disk.{State}
 

@@ -132,7 +132,7 @@ fn head(version: u64) -> Block {
 
 // A disk with both packs of an image, of these versions, and this many records in the first journal of pack 0. Eight
 // calls lay it out.
-fn image(
+pub fn image(
     alloc: Global,
     fails: &[u64],
     first: u64,
@@ -156,7 +156,7 @@ fn image(
 }
 
 // Runs these words.
-fn answer(
+pub fn answer(
     alloc: Global,
     texts: &[&str],
     disk: &mut MemoryDisk,
