@@ -2,9 +2,11 @@
 ghost use Rattle.std.specs.Prelude.{◌≡◌, ◌++◌, IsTrue, take};
 ghost use Rattle.f2_bytes.specs.Fields.{lie_apart};
 ghost use Rattle.f2_bytes.specs.Node.{footer_rows};
-ghost use Rattle.f2_node.specs.Records.{footer_of};
+ghost use Rattle.f2_node.specs.Records.{footer_of, FitsFooter};
+ghost use Rattle.f2_node.specs.Records.{footer_bytes as bytes_of_footer};
 
 use crate::records::Footer;
+use byteorder::{ByteOrder, LittleEndian};
 use f2_bytes::{Field, FieldTable, u32_at, u64_at};
 use f2_disk::Block;
 
@@ -55,14 +57,24 @@ pub fn footer(b: &Block) -> Footer
     }
 }
 
+// The 24 bytes of a footer.
+fn footer_bytes(f: Footer) -> [u8; 24]
+    ensures bytes { result ≡ bytes_of_footer f }
+    ensures fits { FitsFooter f }
+{
+    let mut bytes = [0; 24];
+    LittleEndian::write_u32(&mut bytes[0..4], f.nid);
+    LittleEndian::write_u32(&mut bytes[4..8], f.ino);
+    LittleEndian::write_u32(&mut bytes[8..12], f.flag);
+    LittleEndian::write_u64(&mut bytes[12..20], f.cp_ver);
+    LittleEndian::write_u32(&mut bytes[20..24], f.next);
+    bytes
+}
+
 /// Puts a footer into a block; only its last 24 bytes change.
 pub fn set_footer(b: &mut Block, f: &Footer)
     ensures read { footer_of b.new ≡ f.now }
     ensures others { take 4072 b.new ≡ take 4072 b.old }
 {
-    b.put(4072, &f.nid.to_le_bytes());
-    b.put(4076, &f.ino.to_le_bytes());
-    b.put(4080, &f.flag.to_le_bytes());
-    b.put(4084, &f.cp_ver.to_le_bytes());
-    b.put(4092, &f.next.to_le_bytes());
+    b.put(4072, &footer_bytes(*f));
 }

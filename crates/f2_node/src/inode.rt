@@ -5,6 +5,7 @@ ghost use Rattle.f2_bytes.specs.Bytes.{word as word_of};
 ghost use Rattle.f2_bytes.specs.Fields.{lie_apart, row_at, with_field};
 ghost use Rattle.f2_bytes.specs.Node.{inode_rows, inode_row, address_count, inline_length};
 
+use crate::puts::put_number;
 use f2_bytes::{Field, FieldTable, u32_at};
 use f2_disk::Block;
 
@@ -46,7 +47,7 @@ pub fn set_inode_field(b: &mut Block, k: usize, v: u64)
     ensures read { inode_row b.new k ≡ v }
 {
     let row = INODE.rows[k];
-    b.put(row.offset, &v.to_le_bytes()[..row.width]);
+    put_number(b, row.offset, row.width, v);
 }
 
 /// The number `j` of the 1024 four-byte numbers of a block.
@@ -63,13 +64,14 @@ pub fn set_word(b: &mut Block, j: usize, v: u32)
     ensures bytes { b.new ≡ with_number b.old (4 * j) 4 v }
     ensures read { word_of b.new j ≡ v }
 {
-    b.put(4 * j, &v.to_le_bytes());
+    put_number(b, 4 * j, 4, u64::from(v));
 }
 
 /// How many address words of an inode name blocks: 923, or 50 fewer with attributes or names in the inode.
 #[tactic(auto, unfolding(f2_bytes::specs::Node::address_count))]
 pub fn addresses(b: &Block) -> u32
     ensures count { result ≡ address_count b.now }
+    ensures least { 873 ≤ result }
     ensures most { result ≤ 923 }
 {
     let flags = inode_field(b, 2);

@@ -7,6 +7,8 @@
 mod footers;
 mod inode;
 mod kinds;
+mod laws;
+mod puts;
 mod records;
 mod spots;
 
@@ -16,5 +18,9 @@ pub use inode::{
     word,
 };
 pub use kinds::kind;
+pub use laws::{slots_lie_before_the_inline_attributes, three_steps_lead_to_the_inode};
 pub use records::{Footer, Kind, Spot};
 pub use spots::{locate, parent_of};
+
+#[cfg(test)]
+mod tests;
