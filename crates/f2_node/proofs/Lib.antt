@@ -1,0 +1,5 @@
+pub mod FooterParts
+pub mod PutNumbers
+pub mod Rows
+pub mod SlotCounts
+pub mod Steps
