@@ -2,6 +2,7 @@
 #![tactic(auto)]
 
 mod accessors;
+mod files;
 mod mounting;
 mod readings;
 

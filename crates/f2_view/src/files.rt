@@ -1,0 +1,105 @@
+// The nodes of a mounted image's files, and what its summaries say.
+ghost use Rattle.std.specs.Prelude.{◌≡◌, ◌≤◌, ◌<◌, ◌+◌, ◌*◌, ℕ, true, false, if◌then◌else◌, Some, None, Ok, IfOk, OnOk, IsErrOf};
+ghost use Rattle.f2_bytes.specs.Bytes.{Image};
+ghost use Rattle.f2_bytes.specs.Node.{offset_limit};
+ghost use Rattle.f2_bytes.specs.Summary.{summary_entry};
+ghost use Rattle.f2_bytes.specs.Summary.{summary as summary_in_image};
+ghost use Rattle.f2_bytes.specs.Superblock.{is_main};
+ghost use Rattle.f2_bytes.specs.Tree.{read_node, tree_node, tree_slot};
+ghost use Rattle.f2_disk.specs.Disk.{Reads, Goes, Rose};
+ghost use Rattle.f2_sum.specs.Records.{summary_of};
+ghost use Rattle.f2_view.specs.Mounted.{layout_in, IsMountOf};
+
+use crate::{Mount, ViewRefusal};
+use f2_disk::{Block, Disk};
+use f2_sum::Summary;
+
+impl Mount {
+    /// Reads the node with this nid, where the node address table has one with an address in the main area: true
+    /// exactly then. Else the block stays. After a refusal its bytes are any.
+    pub fn node<D: Disk>(
+        &mut self,
+        d: &mut D,
+        nid: u32,
+        into: &mut Block,
+    ) -> Result<bool, ViewRefusal>
+        requires lies { (layout_in self.old).blocks ≤ (D.state d.old).size }
+        ensures node { IfOk result (λ found. (image : Image) → (D.state d.old).told ≡ Some image → IsMountOf image self.old
+            → read_node image nid ≡ (if found then Some into.new else None)) }
+        ensures stays { result ≡ Ok false → into.new ≡ into.old }
+        ensures mount { self.new ≡ self.old }
+        ensures reads { Reads (D.state d.old) (D.state d.new) }
+        ensures goes { Goes (D.state d.old) (D.state d.new) }
+        ensures fault { IsErrOf result ViewRefusal.DiskFault → Rose (D.state d.old).faults (D.state d.new).faults }
+    {
+        Err(ViewRefusal::NoMemory)
+    }
+
+    /// Reads the node of file `ino` at this offset among the file's nodes, where the nid slots of the nodes above it lead
+    /// to one: true exactly then. Else the bytes in `into` are any. The inode itself is at offset 0.
+    pub fn file_node<D: Disk>(
+        &mut self,
+        d: &mut D,
+        ino: u32,
+        offset: u32,
+        into: &mut Block,
+    ) -> Result<bool, ViewRefusal>
+        requires lies { (layout_in self.old).blocks ≤ (D.state d.old).size }
+        ensures node { IfOk result (λ found. (image : Image) → (D.state d.old).told ≡ Some image → IsMountOf image self.old
+            → tree_node image ino offset ≡ (if found then Some into.new else None)) }
+        ensures mount { self.new ≡ self.old }
+        ensures reads { Reads (D.state d.old) (D.state d.new) }
+        ensures goes { Goes (D.state d.old) (D.state d.new) }
+        ensures fault { IsErrOf result ViewRefusal.DiskFault → Rose (D.state d.old).faults (D.state d.new).faults }
+    {
+        Err(ViewRefusal::NoMemory)
+    }
+
+    /// The address of block `k` of file `ino`, as the nid slots of its nodes lead to it: 0 for a hole, where a node on the
+    /// way is missing, past the last block that a file can have, and for a file whose inode is missing or names no blocks.
+    pub fn slot<D: Disk>(&mut self, d: &mut D, ino: u32, k: u64) -> Result<u32, ViewRefusal>
+        requires lies { (layout_in self.old).blocks ≤ (D.state d.old).size }
+        ensures slot { IfOk result (λ address. (image : Image) → (D.state d.old).told ≡ Some image → IsMountOf image self.old
+            → address ≡ tree_slot image ino k) }
+        ensures mount { self.new ≡ self.old }
+        ensures reads { Reads (D.state d.old) (D.state d.new) }
+        ensures goes { Goes (D.state d.old) (D.state d.new) }
+        ensures fault { IsErrOf result ViewRefusal.DiskFault → Rose (D.state d.old).faults (D.state d.new).faults }
+    {
+        Err(ViewRefusal::NoMemory)
+    }
+
+    /// The summary of the block at an address of the main area.
+    pub fn summary<D: Disk>(&mut self, d: &mut D, addr: u32) -> Result<Summary, ViewRefusal>
+        requires main { is_main (layout_in self.old) addr ≡ true }
+        requires lies { (layout_in self.old).blocks ≤ (D.state d.old).size }
+        ensures summary { IfOk result (λ s. (image : Image) → (D.state d.old).told ≡ Some image → IsMountOf image self.old
+            → summary_of s ≡ summary_in_image image addr) }
+        ensures mount { self.new ≡ self.old }
+        ensures reads { Reads (D.state d.old) (D.state d.new) }
+        ensures goes { Goes (D.state d.old) (D.state d.new) }
+        ensures fault { IsErrOf result ViewRefusal.DiskFault → Rose (D.state d.old).faults (D.state d.new).faults }
+    {
+        Err(ViewRefusal::NoMemory)
+    }
+
+    /// Fills `into` with the summaries of the 512 blocks of a main segment, as the entries of a summary block. After a
+    /// refusal its bytes are any.
+    pub fn summaries<D: Disk>(
+        &mut self,
+        d: &mut D,
+        segno: u32,
+        into: &mut Block,
+    ) -> Result<(), ViewRefusal>
+        requires segment { segno < (layout_in self.old).segments }
+        requires lies { (layout_in self.old).blocks ≤ (D.state d.old).size }
+        ensures summaries { OnOk result ((image : Image) → (D.state d.old).told ≡ Some image → IsMountOf image self.old
+            → (k : ℕ) → k < 512 → summary_entry into.new k ≡ summary_in_image image ((layout_in self.old).main + 512 * segno + k)) }
+        ensures mount { self.new ≡ self.old }
+        ensures reads { Reads (D.state d.old) (D.state d.new) }
+        ensures goes { Goes (D.state d.old) (D.state d.new) }
+        ensures fault { IsErrOf result ViewRefusal.DiskFault → Rose (D.state d.old).faults (D.state d.new).faults }
+    {
+        Err(ViewRefusal::NoMemory)
+    }
+}
