@@ -1,8 +1,8 @@
 -- What a dump puts.
-use Rattle.std.specs.Prelude.{◌≡◌, ◌↔◌, ◌⊎◌, ℕ, ◌≤◌, List, ◌++◌, take, Option, Some, Result, Err, OnOk, IsErrOf}
+use Rattle.std.specs.Prelude.{◌≡◌, ◌↔◌, ◌⊎◌, ℕ, ◌≤◌, List, ◌++◌, take, Option, Some, None, Result, Err, OnOk, IsErrOf}
 use Rattle.f2_disk.specs.Disk.{Rose}
 use Rattle.f2_dump.specs.declared.dumping.DumpRefusal.{DumpRefusal}
-use Rattle.f2_dump.specs.declared.dumping.DumpRefusal.TheVariants.{DiskFault, SinkFault, NoMemory, OutOfRange}
+use Rattle.f2_dump.specs.declared.dumping.DumpRefusal.TheVariants.{DiskFault, SinkFault, NoMemory, OutOfRange, NoSuchNode}
 use Rattle.f2_view.specs.declared.readings.ViewRefusal.{ViewRefusal}
 use Rattle.f2_view.specs.declared.readings.ViewRefusal.TheVariants as view
 
@@ -20,11 +20,20 @@ pub record Sinks {T : Type 0} (before now : ℕ) (result : Result T DumpRefusal)
 pub record Refuses {T : Type 0} (outside : Option ℕ) (old new : Option (List ℕ)) (result : Result T DumpRefusal) : Type 0 where
   pub exact : (n : ℕ) → (result ≡ Err (OutOfRange n)) ↔ (outside ≡ Some n)
   pub nothing : (n : ℕ) → result ≡ Err (OutOfRange n) → new ≡ old
+  -- nor was anything where there is no such node
+  pub absent : (n : ℕ) → result ≡ Err (NoSuchNode n) → new ≡ old
+
+-- A number that the image has no node for is refused, and no other; where there is one, nothing is done and nothing put.
+pub record Lacks {T : Type 0} (missing : Option ℕ) (result : Result T DumpRefusal) : Type 0 where
+  pub named : (n : ℕ) → result ≡ Err (NoSuchNode n) → missing ≡ Some n
+  pub done : OnOk result (missing ≡ None)
+  pub sink : IsErrOf result SinkFault → missing ≡ None
 
 -- no refusal but a fault of the sink and want of memory
 abbrev pub OnlySink : {T : Type 0} → Result T DumpRefusal → Type 0
 OnlySink (Err DiskFault) = ⊥
 OnlySink (Err (OutOfRange n)) = ⊥
+OnlySink (Err (NoSuchNode n)) = ⊥
 OnlySink _ = Unit {0}
 
 -- what a failed reading is answered with
@@ -36,11 +45,13 @@ reading_refusal view.NoMemory = NoMemory
 abbrev pub OnlyReads : {T : Type 0} → Result T DumpRefusal → Type 0
 OnlyReads (Err SinkFault) = ⊥
 OnlyReads (Err (OutOfRange n)) = ⊥
+OnlyReads (Err (NoSuchNode n)) = ⊥
 OnlyReads _ = Unit {0}
 
 -- no number was refused
 abbrev pub IsInside : {T : Type 0} → Result T DumpRefusal → Type 0
 IsInside (Err (OutOfRange n)) = ⊥
+IsInside (Err (NoSuchNode n)) = ⊥
 IsInside _ = Unit {0}
 
 -- What a sink was sent that had `had` before, and a text that is still to be put, are together all of this.

@@ -1,3 +1,4 @@
 pub mod Dump
 pub mod Fields
+pub mod Files
 pub mod Text

@@ -5,8 +5,8 @@ ghost use Rattle.f2_bytes.specs.Checkpoint.{checkpoint_rows};
 ghost use Rattle.f2_disk.specs.Disk.{Reads, Goes, Rose};
 ghost use Rattle.f2_view.specs.Mounted.{IsMountOf, layout_in};
 ghost use Rattle.f2_dump.specs.Fields.{field_lines, checkpoint_names};
-ghost use Rattle.f2_dump.specs.Text.{dump_lines, block_lines, outside as is_outside};
-ghost use Rattle.f2_dump.specs.Dump.{Dumps, Refuses, Sinks, OnlySink, IsInside, reading_refusal};
+ghost use Rattle.f2_dump.specs.Text.{dump_lines, block_lines, outside as is_outside, missing as is_missing};
+ghost use Rattle.f2_dump.specs.Dump.{Dumps, Refuses, Lacks, Sinks, OnlySink, IsInside, reading_refusal};
 ghost use Rattle.f2_dump.specs.declared.dumping.DumpRefusal.TheVariants.{DiskFault as Faulted, NoMemory as MemoryShort};
 
 use crate::gathering::{PIECE, put_text};
@@ -32,6 +32,12 @@ pub enum What {
     Sit(u64, Option<u64>),
     /// The bytes of the block at this address.
     Raw(u64),
+    /// The summaries of the blocks of the main segments of a range.
+    Ssa(u64, Option<u64>),
+    /// The fields of the inode with this number, and the addresses of the blocks that it names.
+    Inode(u32),
+    /// The bytes of the regular file or symbolic link with this number.
+    Cat(u32),
 }
 
 /// Why a dump ended early.
@@ -49,6 +55,9 @@ pub enum DumpRefusal {
     /// This number lies outside of the range of what is dumped: nothing was put.
     #[error("{0} is out of range")]
     OutOfRange(u64),
+    /// There is no inode of this number, or none with bytes that can be dumped: nothing was put.
+    #[error("there is no node {0}")]
+    NoSuchNode(u32),
 }
 
 impl From<ViewRefusal> for DumpRefusal {
@@ -147,6 +156,7 @@ pub fn dump<D: Disk, O: Sink>(
     requires lies { (layout_in m.old).blocks ≤ (D.state d.old).size }
     ensures lines { (image : Image) → (D.state d.old).told ≡ Some image → IsMountOf image m.old
         → Dumps (dump_lines image what) (O.told o.old) (O.told o.new) result }
+    ensures missing { (image : Image) → (D.state d.old).told ≡ Some image → IsMountOf image m.old → Lacks (is_missing image what) result }
     ensures range { Refuses (is_outside (layout_in m.old) what) (O.told o.old) (O.told o.new) result }
     ensures sink { Sinks (O.faults o.old) (O.faults o.new) result }
     ensures mount { m.new ≡ m.old }
@@ -168,5 +178,8 @@ pub fn dump<D: Disk, O: Sink>(
             dump_segments(alloc, m, first as u32, end, d, o)
         }
         What::Raw(address) => dump_block(alloc, address, d, o),
+        What::Ssa(_, _) => Err(DumpRefusal::NoMemory),
+        What::Inode(_) => Err(DumpRefusal::NoMemory),
+        What::Cat(_) => Err(DumpRefusal::NoMemory),
     }
 }

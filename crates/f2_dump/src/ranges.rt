@@ -35,6 +35,8 @@ pub(crate) fn outside(l: &Layout, what: What) -> Option<u64>
         What::Nat(first, last) => outside_of(455 * u64::from(l.nat_half), first, last),
         What::Sit(first, last) => outside_of(u64::from(l.segments), first, last),
         What::Raw(address) => outside_of(l.blocks, address, None),
+        What::Ssa(first, last) => outside_of(u64::from(l.segments), first, last),
+        What::Inode(_) | What::Cat(_) => None,
     }
 }
 
