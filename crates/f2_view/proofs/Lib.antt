@@ -1,2 +1,3 @@
 mod Mounts
-mod TableReadings
+pub mod NodeReads
+pub mod TableReadings

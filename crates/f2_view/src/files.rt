@@ -11,8 +11,19 @@ ghost use Rattle.f2_sum.specs.Records.{summary_of};
 ghost use Rattle.f2_view.specs.Mounted.{layout_in, IsMountOf};
 
 use crate::{Mount, ViewRefusal};
+use f2_bytes::Layout;
 use f2_disk::{Block, Disk};
 use f2_sum::Summary;
+
+// The least nid of a node: 0 is none, and 1 and 2 stand for the tables themselves.
+const FIRST_NID: u32 = 3;
+
+// Whether a block of the main area has this address.
+pub(crate) fn is_in_main(l: &Layout, address: u32) -> bool
+    ensures { result ≡ is_main l.now address }
+{
+    l.main <= address && u64::from(address) < u64::from(l.main) + 512 * u64::from(l.segments)
+}
 
 impl Mount {
     /// Reads the node with this nid, where the node address table has one with an address in the main area: true
@@ -32,7 +43,18 @@ impl Mount {
         ensures goes { Goes (D.state d.old) (D.state d.new) }
         ensures fault { IsErrOf result ViewRefusal.DiskFault → Rose (D.state d.old).faults (D.state d.new).faults }
     {
-        Err(ViewRefusal::NoMemory)
+        if nid < FIRST_NID {
+            return Ok(false);
+        }
+        if nid >= self.nid_limit() {
+            return Ok(false);
+        }
+        let address = self.nat_entry(d, nid)?.addr;
+        if !is_in_main(&self.layout(), address) {
+            return Ok(false);
+        }
+        d.read(u64::from(address), into)?;
+        Ok(true)
     }
 
     /// Reads the node of file `ino` at this offset among the file's nodes, where the nid slots of the nodes above it lead
