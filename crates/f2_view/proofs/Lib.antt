@@ -1,3 +1,4 @@
 mod Mounts
 pub mod NodeReads
 pub mod TableReadings
+pub mod TreeReads

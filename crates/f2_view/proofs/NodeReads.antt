@@ -4,7 +4,7 @@ use Rattle.std.specs.Prelude.{◌&&◌, not, ◌==◌, nat_le, nat_lt}
 use Rattle.std.specs.Option.{option_and_then}
 use Rattle.std.proofs.lemmas.Bool.{lt-leb, le-leb, le-ltb, lt-ltb, leb-true, ne_eqb, and_parts}
 use Rattle.f2_bytes.specs.declared.layout.Layout.{Layout}
-use Rattle.f2_bytes.specs.Bytes.{Block, Image, block_at}
+use Rattle.f2_bytes.specs.Bytes.{Image, block_at}
 use Rattle.f2_bytes.specs.Journal.{NatEntry}
 use Rattle.f2_bytes.specs.NodeAddressTable.{nat, nid_limit, is_live, image_nat_entry}
 use Rattle.f2_bytes.specs.Superblock.{layout, is_main, IsInOrder}

@@ -6,13 +6,16 @@ ghost use Rattle.f2_bytes.specs.Summary.{summary_entry};
 ghost use Rattle.f2_bytes.specs.Summary.{summary as summary_in_image};
 ghost use Rattle.f2_bytes.specs.Superblock.{is_main};
 ghost use Rattle.f2_bytes.specs.Tree.{read_node, tree_node, tree_slot};
+ghost use Rattle.f2_bytes.specs.Tree.{node_within as node_in_steps};
 ghost use Rattle.f2_disk.specs.Disk.{Reads, Goes, Rose};
 ghost use Rattle.f2_sum.specs.Records.{summary_of};
 ghost use Rattle.f2_view.specs.Mounted.{layout_in, IsMountOf};
 
+use crate::places::{address_at, has_slots, nid_at};
 use crate::{Mount, ViewRefusal};
 use f2_bytes::Layout;
 use f2_disk::{Block, Disk};
+use f2_node::{addresses, locate, parent_of};
 use f2_sum::Summary;
 
 // The least nid of a node: 0 is none, and 1 and 2 stand for the tables themselves.
@@ -57,6 +60,41 @@ impl Mount {
         Ok(true)
     }
 
+    // Reads the node of file `ino` at this offset among the file's nodes, where at most so many steps down from the inode
+    // lead to it.
+    fn node_within<D: Disk>(
+        &mut self,
+        d: &mut D,
+        steps: u8,
+        ino: u32,
+        offset: u32,
+        into: &mut Block,
+    ) -> Result<bool, ViewRefusal>
+        requires lies { (layout_in self.old).blocks ≤ (D.state d.old).size }
+        ensures node { IfOk result (λ found. (image : Image) → (D.state d.old).told ≡ Some image → IsMountOf image self.old
+            → node_in_steps steps image ino offset ≡ (if found then Some into.new else None)) }
+        ensures mount { self.new ≡ self.old }
+        ensures reads { Reads (D.state d.old) (D.state d.new) }
+        ensures goes { Goes (D.state d.old) (D.state d.new) }
+        ensures fault { IsErrOf result ViewRefusal.DiskFault → Rose (D.state d.old).faults (D.state d.new).faults }
+    {
+        if offset == 0 {
+            return self.node(d, ino, into);
+        }
+        if steps == 0 {
+            return Ok(false);
+        }
+        let spot = match parent_of(offset) {
+            Some(spot) => spot,
+            None => return Ok(false),
+        };
+        if !self.node_within(d, steps - 1, ino, spot.offset, into)? {
+            return Ok(false);
+        }
+        let nid = nid_at(into, spot);
+        self.node(d, nid, into)
+    }
+
     /// Reads the node of file `ino` at this offset among the file's nodes, where the nid slots of the nodes above it lead
     /// to one: true exactly then. Else the bytes in `into` are any. The inode itself is at offset 0.
     pub fn file_node<D: Disk>(
@@ -74,7 +112,7 @@ impl Mount {
         ensures goes { Goes (D.state d.old) (D.state d.new) }
         ensures fault { IsErrOf result ViewRefusal.DiskFault → Rose (D.state d.old).faults (D.state d.new).faults }
     {
-        Err(ViewRefusal::NoMemory)
+        self.node_within(d, 3, ino, offset, into)
     }
 
     /// The address of block `k` of file `ino`, as the nid slots of its nodes lead to it: 0 for a hole, where a node on the
@@ -88,7 +126,24 @@ impl Mount {
         ensures goes { Goes (D.state d.old) (D.state d.new) }
         ensures fault { IsErrOf result ViewRefusal.DiskFault → Rose (D.state d.old).faults (D.state d.new).faults }
     {
-        Err(ViewRefusal::NoMemory)
+        let mut block = Block::zeros();
+        if !self.node(d, ino, &mut block)? {
+            return Ok(0);
+        }
+        if !has_slots(&block) {
+            return Ok(0);
+        }
+        let spot = match locate(k, addresses(&block)) {
+            Some(spot) => spot,
+            None => return Ok(0),
+        };
+        if spot.offset == 0 {
+            return Ok(address_at(&block, spot));
+        }
+        if !self.file_node(d, ino, spot.offset, &mut block)? {
+            return Ok(0);
+        }
+        Ok(address_at(&block, spot))
     }
 
     /// The summary of the block at an address of the main area.

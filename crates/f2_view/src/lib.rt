@@ -4,6 +4,7 @@
 mod accessors;
 mod files;
 mod mounting;
+mod places;
 mod readings;
 
 pub use accessors::Mount;

@@ -1,5 +1,5 @@
 use Rattle.std.proofs.Common.{◌≡◌, ◌<◌, ◌≤◌, ℕ, Some, sym, subst, ap, ◌∙◌}
-use Rattle.f2_bytes.specs.Bytes.{Image, block_at}
+use Rattle.f2_bytes.specs.Bytes.{block_at}
 use Rattle.f2_bytes.specs.declared.layout.Layout.{Layout}
 use Rattle.f2_bytes.specs.Superblock.{is_main, IsInOrder}
 use Rattle.f2_sum.specs.Records.{nat_entry}
