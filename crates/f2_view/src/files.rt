@@ -1,14 +1,10 @@
-// The nodes of a mounted image's files, and what its summaries say.
+// The nodes of a mounted image's files.
 ghost use Rattle.std.specs.Prelude.{◌≡◌, ◌≤◌, ◌<◌, ◌+◌, ◌*◌, ℕ, true, false, if◌then◌else◌, Some, None, Ok, IfOk, OnOk, IsErrOf};
 ghost use Rattle.f2_bytes.specs.Bytes.{Image};
-ghost use Rattle.f2_bytes.specs.Node.{offset_limit};
-ghost use Rattle.f2_bytes.specs.Summary.{summary_entry};
-ghost use Rattle.f2_bytes.specs.Summary.{summary as summary_in_image};
 ghost use Rattle.f2_bytes.specs.Superblock.{is_main};
 ghost use Rattle.f2_bytes.specs.Tree.{read_node, tree_node, tree_slot};
 ghost use Rattle.f2_bytes.specs.Tree.{node_within as node_in_steps};
 ghost use Rattle.f2_disk.specs.Disk.{Reads, Goes, Rose};
-ghost use Rattle.f2_sum.specs.Records.{summary_of};
 ghost use Rattle.f2_view.specs.Mounted.{layout_in, IsMountOf};
 
 use crate::places::{address_at, has_slots, nid_at};
@@ -16,7 +12,6 @@ use crate::{Mount, ViewRefusal};
 use f2_bytes::Layout;
 use f2_disk::{Block, Disk};
 use f2_node::{addresses, locate, parent_of};
-use f2_sum::Summary;
 
 // The least nid of a node: 0 is none, and 1 and 2 stand for the tables themselves.
 const FIRST_NID: u32 = 3;
@@ -144,39 +139,5 @@ impl Mount {
             return Ok(0);
         }
         Ok(address_at(&block, spot))
-    }
-
-    /// The summary of the block at an address of the main area.
-    pub fn summary<D: Disk>(&mut self, d: &mut D, addr: u32) -> Result<Summary, ViewRefusal>
-        requires main { is_main (layout_in self.old) addr ≡ true }
-        requires lies { (layout_in self.old).blocks ≤ (D.state d.old).size }
-        ensures summary { IfOk result (λ s. (image : Image) → (D.state d.old).told ≡ Some image → IsMountOf image self.old
-            → summary_of s ≡ summary_in_image image addr) }
-        ensures mount { self.new ≡ self.old }
-        ensures reads { Reads (D.state d.old) (D.state d.new) }
-        ensures goes { Goes (D.state d.old) (D.state d.new) }
-        ensures fault { IsErrOf result ViewRefusal.DiskFault → Rose (D.state d.old).faults (D.state d.new).faults }
-    {
-        Err(ViewRefusal::NoMemory)
-    }
-
-    /// Fills `into` with the summaries of the 512 blocks of a main segment, as the entries of a summary block. After a
-    /// refusal its bytes are any.
-    pub fn summaries<D: Disk>(
-        &mut self,
-        d: &mut D,
-        segno: u32,
-        into: &mut Block,
-    ) -> Result<(), ViewRefusal>
-        requires segment { segno < (layout_in self.old).segments }
-        requires lies { (layout_in self.old).blocks ≤ (D.state d.old).size }
-        ensures summaries { OnOk result ((image : Image) → (D.state d.old).told ≡ Some image → IsMountOf image self.old
-            → (k : ℕ) → k < 512 → summary_entry into.new k ≡ summary_in_image image ((layout_in self.old).main + 512 * segno + k)) }
-        ensures mount { self.new ≡ self.old }
-        ensures reads { Reads (D.state d.old) (D.state d.new) }
-        ensures goes { Goes (D.state d.old) (D.state d.new) }
-        ensures fault { IsErrOf result ViewRefusal.DiskFault → Rose (D.state d.old).faults (D.state d.new).faults }
-    {
-        Err(ViewRefusal::NoMemory)
     }
 }

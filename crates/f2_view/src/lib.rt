@@ -6,6 +6,7 @@ mod files;
 mod mounting;
 mod places;
 mod readings;
+mod summaries;
 
 pub use accessors::Mount;
 pub use mounting::{MountRefusal, mount};
