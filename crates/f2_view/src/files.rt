@@ -1,5 +1,5 @@
 // The nodes of a mounted image's files.
-ghost use Rattle.std.specs.Prelude.{◌≡◌, ◌≤◌, ◌<◌, ◌+◌, ◌*◌, ℕ, true, false, if◌then◌else◌, Some, None, Ok, IfOk, OnOk, IsErrOf};
+ghost use Rattle.std.specs.Prelude.{◌≡◌, ◌≤◌, false, if◌then◌else◌, Some, None, Ok, IfOk, IsErrOf};
 ghost use Rattle.f2_bytes.specs.Bytes.{Image};
 ghost use Rattle.f2_bytes.specs.Superblock.{is_main};
 ghost use Rattle.f2_bytes.specs.Tree.{read_node, tree_node, tree_slot};
@@ -17,7 +17,7 @@ use f2_node::{addresses, locate, parent_of};
 const FIRST_NID: u32 = 3;
 
 // Whether a block of the main area has this address.
-pub(crate) fn is_in_main(l: &Layout, address: u32) -> bool
+fn is_in_main(l: &Layout, address: u32) -> bool
     ensures { result ≡ is_main l.now address }
 {
     l.main <= address && u64::from(address) < u64::from(l.main) + 512 * u64::from(l.segments)

@@ -17,10 +17,11 @@ pub(crate) fn nid_at(b: &Block, spot: Spot) -> u32
     requires inode { spot.offset ≡ 0 → spot.slot < 5 }
     ensures { result ≡ child_nid spot.offset b.now spot.slot }
 {
+    let place = spot.slot as usize;
     if spot.offset == 0 {
-        word(b, FIRST_NID + spot.slot as usize)
+        word(b, FIRST_NID + place)
     } else {
-        word(b, spot.slot as usize)
+        word(b, place)
     }
 }
 
