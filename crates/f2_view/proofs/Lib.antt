@@ -1,2 +1,5 @@
 mod Mounts
-mod TableReadings
+pub mod NodeReads
+pub mod SummaryReads
+pub mod TableReadings
+pub mod TreeReads

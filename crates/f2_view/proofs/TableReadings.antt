@@ -10,11 +10,11 @@ use Rattle.f2_pack.specs.Held.{Held}
 use Rattle.f2_tables.specs.Tables.{NatTable, SitTable, OpensNat, OpensSit, nat_newer, sit_newer, nat_in, sit_in}
 use Rattle.f2_view.specs.Mounted.{Mounted, IsMountOf, layout_in}
 
-own_layout : (image : Image) (m : Mounted) → IsMountOf image m → layout_in m ≡ layout image
+pub own_layout : (image : Image) (m : Mounted) → IsMountOf image m → layout_in m ≡ layout image
 unfolding layout
 own_layout image m of = ap layout_of of.sup
 
-own_head : (image : Image) (m : Mounted) → IsMountOf image m → m.chosen.head ≡ head image
+pub own_head : (image : Image) (m : Mounted) → IsMountOf image m → m.chosen.head ≡ head image
 unfolding head
 own_head image m of = ap (λ (h : Held). h.head) of.chosen
 

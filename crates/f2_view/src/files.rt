@@ -1,18 +1,27 @@
-// The nodes of a mounted image's files, and what its summaries say.
-ghost use Rattle.std.specs.Prelude.{◌≡◌, ◌≤◌, ◌<◌, ◌+◌, ◌*◌, ℕ, true, false, if◌then◌else◌, Some, None, Ok, IfOk, OnOk, IsErrOf};
+// The nodes of a mounted image's files.
+ghost use Rattle.std.specs.Prelude.{◌≡◌, ◌≤◌, false, if◌then◌else◌, Some, None, Ok, IfOk, IsErrOf};
 ghost use Rattle.f2_bytes.specs.Bytes.{Image};
-ghost use Rattle.f2_bytes.specs.Node.{offset_limit};
-ghost use Rattle.f2_bytes.specs.Summary.{summary_entry};
-ghost use Rattle.f2_bytes.specs.Summary.{summary as summary_in_image};
 ghost use Rattle.f2_bytes.specs.Superblock.{is_main};
 ghost use Rattle.f2_bytes.specs.Tree.{read_node, tree_node, tree_slot};
+ghost use Rattle.f2_bytes.specs.Tree.{node_within as node_in_steps};
 ghost use Rattle.f2_disk.specs.Disk.{Reads, Goes, Rose};
-ghost use Rattle.f2_sum.specs.Records.{summary_of};
 ghost use Rattle.f2_view.specs.Mounted.{layout_in, IsMountOf};
 
+use crate::places::{address_at, has_slots, nid_at};
 use crate::{Mount, ViewRefusal};
+use f2_bytes::Layout;
 use f2_disk::{Block, Disk};
-use f2_sum::Summary;
+use f2_node::{addresses, locate, parent_of};
+
+// The least nid of a node: 0 is none, and 1 and 2 stand for the tables themselves.
+const FIRST_NID: u32 = 3;
+
+// Whether a block of the main area has this address.
+fn is_in_main(l: &Layout, address: u32) -> bool
+    ensures { result ≡ is_main l.now address }
+{
+    l.main <= address && u64::from(address) < u64::from(l.main) + 512 * u64::from(l.segments)
+}
 
 impl Mount {
     /// Reads the node with this nid, where the node address table has one with an address in the main area: true
@@ -32,7 +41,53 @@ impl Mount {
         ensures goes { Goes (D.state d.old) (D.state d.new) }
         ensures fault { IsErrOf result ViewRefusal.DiskFault → Rose (D.state d.old).faults (D.state d.new).faults }
     {
-        Err(ViewRefusal::NoMemory)
+        if nid < FIRST_NID {
+            return Ok(false);
+        }
+        if nid >= self.nid_limit() {
+            return Ok(false);
+        }
+        let address = self.nat_entry(d, nid)?.addr;
+        if !is_in_main(&self.layout(), address) {
+            return Ok(false);
+        }
+        d.read(u64::from(address), into)?;
+        Ok(true)
+    }
+
+    // Reads the node of file `ino` at this offset among the file's nodes, where at most so many steps down from the inode
+    // lead to it.
+    fn node_within<D: Disk>(
+        &mut self,
+        d: &mut D,
+        steps: u8,
+        ino: u32,
+        offset: u32,
+        into: &mut Block,
+    ) -> Result<bool, ViewRefusal>
+        requires lies { (layout_in self.old).blocks ≤ (D.state d.old).size }
+        ensures node { IfOk result (λ found. (image : Image) → (D.state d.old).told ≡ Some image → IsMountOf image self.old
+            → node_in_steps steps image ino offset ≡ (if found then Some into.new else None)) }
+        ensures mount { self.new ≡ self.old }
+        ensures reads { Reads (D.state d.old) (D.state d.new) }
+        ensures goes { Goes (D.state d.old) (D.state d.new) }
+        ensures fault { IsErrOf result ViewRefusal.DiskFault → Rose (D.state d.old).faults (D.state d.new).faults }
+    {
+        if offset == 0 {
+            return self.node(d, ino, into);
+        }
+        if steps == 0 {
+            return Ok(false);
+        }
+        let spot = match parent_of(offset) {
+            Some(spot) => spot,
+            None => return Ok(false),
+        };
+        if !self.node_within(d, steps - 1, ino, spot.offset, into)? {
+            return Ok(false);
+        }
+        let nid = nid_at(into, spot);
+        self.node(d, nid, into)
     }
 
     /// Reads the node of file `ino` at this offset among the file's nodes, where the nid slots of the nodes above it lead
@@ -52,7 +107,7 @@ impl Mount {
         ensures goes { Goes (D.state d.old) (D.state d.new) }
         ensures fault { IsErrOf result ViewRefusal.DiskFault → Rose (D.state d.old).faults (D.state d.new).faults }
     {
-        Err(ViewRefusal::NoMemory)
+        self.node_within(d, 3, ino, offset, into)
     }
 
     /// The address of block `k` of file `ino`, as the nid slots of its nodes lead to it: 0 for a hole, where a node on the
@@ -66,40 +121,23 @@ impl Mount {
         ensures goes { Goes (D.state d.old) (D.state d.new) }
         ensures fault { IsErrOf result ViewRefusal.DiskFault → Rose (D.state d.old).faults (D.state d.new).faults }
     {
-        Err(ViewRefusal::NoMemory)
-    }
-
-    /// The summary of the block at an address of the main area.
-    pub fn summary<D: Disk>(&mut self, d: &mut D, addr: u32) -> Result<Summary, ViewRefusal>
-        requires main { is_main (layout_in self.old) addr ≡ true }
-        requires lies { (layout_in self.old).blocks ≤ (D.state d.old).size }
-        ensures summary { IfOk result (λ s. (image : Image) → (D.state d.old).told ≡ Some image → IsMountOf image self.old
-            → summary_of s ≡ summary_in_image image addr) }
-        ensures mount { self.new ≡ self.old }
-        ensures reads { Reads (D.state d.old) (D.state d.new) }
-        ensures goes { Goes (D.state d.old) (D.state d.new) }
-        ensures fault { IsErrOf result ViewRefusal.DiskFault → Rose (D.state d.old).faults (D.state d.new).faults }
-    {
-        Err(ViewRefusal::NoMemory)
-    }
-
-    /// Fills `into` with the summaries of the 512 blocks of a main segment, as the entries of a summary block. After a
-    /// refusal its bytes are any.
-    pub fn summaries<D: Disk>(
-        &mut self,
-        d: &mut D,
-        segno: u32,
-        into: &mut Block,
-    ) -> Result<(), ViewRefusal>
-        requires segment { segno < (layout_in self.old).segments }
-        requires lies { (layout_in self.old).blocks ≤ (D.state d.old).size }
-        ensures summaries { OnOk result ((image : Image) → (D.state d.old).told ≡ Some image → IsMountOf image self.old
-            → (k : ℕ) → k < 512 → summary_entry into.new k ≡ summary_in_image image ((layout_in self.old).main + 512 * segno + k)) }
-        ensures mount { self.new ≡ self.old }
-        ensures reads { Reads (D.state d.old) (D.state d.new) }
-        ensures goes { Goes (D.state d.old) (D.state d.new) }
-        ensures fault { IsErrOf result ViewRefusal.DiskFault → Rose (D.state d.old).faults (D.state d.new).faults }
-    {
-        Err(ViewRefusal::NoMemory)
+        let mut block = Block::zeros();
+        if !self.node(d, ino, &mut block)? {
+            return Ok(0);
+        }
+        if !has_slots(&block) {
+            return Ok(0);
+        }
+        let spot = match locate(k, addresses(&block)) {
+            Some(spot) => spot,
+            None => return Ok(0),
+        };
+        if spot.offset == 0 {
+            return Ok(address_at(&block, spot));
+        }
+        if !self.file_node(d, ino, spot.offset, &mut block)? {
+            return Ok(0);
+        }
+        Ok(address_at(&block, spot))
     }
 }

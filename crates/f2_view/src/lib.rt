@@ -4,7 +4,9 @@
 mod accessors;
 mod files;
 mod mounting;
+mod places;
 mod readings;
+mod summaries;
 
 pub use accessors::Mount;
 pub use mounting::{MountRefusal, mount};

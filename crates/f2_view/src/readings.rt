@@ -8,9 +8,10 @@ ghost use Rattle.f2_disk.specs.Disk.{Reads, Goes, Rose};
 ghost use Rattle.f2_sum.specs.Records.{nat_entry, sit_entry};
 ghost use Rattle.f2_view.specs.Mounted.{layout_in, IsMountOf};
 ghost use Rattle.f2_view.specs.Readings.{view_refusal};
+ghost use Rattle.f2_view.specs.declared.readings.ViewRefusal.TheVariants.{DiskFault as Faulted};
 
 use crate::Mount;
-use f2_disk::Disk;
+use f2_disk::{Disk, DiskFault};
 use f2_sum::{NatEntry, SitEntry};
 use f2_tables::TableRefusal;
 use thiserror::Error;
@@ -34,6 +35,14 @@ impl From<TableRefusal> for ViewRefusal {
             TableRefusal::DiskFault => ViewRefusal::DiskFault,
             TableRefusal::NoMemory => ViewRefusal::NoMemory,
         }
+    }
+}
+
+impl From<DiskFault> for ViewRefusal {
+    ghost from_gives = { λ _ e. e ≡ Faulted };
+
+    fn from(_: DiskFault) -> Self {
+        ViewRefusal::DiskFault
     }
 }
 
