@@ -8,6 +8,7 @@ mod footers;
 mod inode;
 mod kinds;
 mod laws;
+mod places;
 mod puts;
 mod records;
 mod spots;
@@ -19,6 +20,7 @@ pub use inode::{
 };
 pub use kinds::kind;
 pub use laws::{slots_lie_before_the_inline_attributes, three_steps_lead_to_the_inode};
+pub use places::{address_at, has_bytes, has_slots, is_inline, nid_at};
 pub use records::{Footer, Kind, Spot};
 pub use spots::{locate, parent_of};
 

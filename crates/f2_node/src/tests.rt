@@ -126,3 +126,24 @@ fn a_word_takes_four_bytes(rt: HostRuntime) {
     assert_eq!(rt; word(&b, 1012), 0xEEEE_EEEE);
     assert_eq!(rt; &b.bytes()[4051..4057], [0xEE, 4, 3, 2, 1, 0xEE].as_slice());
 }
+
+#[test]
+fn bits_and_mode_say_where_the_content_stands(rt: HostRuntime) {
+    for (mode, flags, inline, slots, bytes) in [
+        (0x81A4u16, 0u8, false, true, true),
+        (0x81A4, 2, true, false, true),
+        (0x81A4, 4, false, true, true),
+        (0xA1FF, 2, true, false, true),
+        (0x41ED, 2, false, true, false),
+        (0x41ED, 4, true, false, false),
+        (0x21B6, 6, false, false, false),
+        (0, 6, false, false, false),
+    ] {
+        let mut block = Block::zeros();
+        block.put(0, &mode.to_le_bytes());
+        block.put(3, &[flags]);
+        assert_eq!(rt; is_inline(&block), inline, "{mode:x} {flags}");
+        assert_eq!(rt; has_slots(&block), slots, "{mode:x} {flags}");
+        assert_eq!(rt; has_bytes(&block), bytes, "{mode:x} {flags}");
+    }
+}

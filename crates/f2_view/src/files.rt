@@ -7,11 +7,10 @@ ghost use Rattle.f2_bytes.specs.Tree.{node_within as node_in_steps};
 ghost use Rattle.f2_disk.specs.Disk.{Reads, Goes, Rose};
 ghost use Rattle.f2_view.specs.Mounted.{layout_in, IsMountOf};
 
-use crate::places::{address_at, has_slots, nid_at};
 use crate::{Mount, ViewRefusal};
 use f2_bytes::Layout;
 use f2_disk::{Block, Disk};
-use f2_node::{addresses, locate, parent_of};
+use f2_node::{address_at, addresses, has_slots, locate, nid_at, parent_of};
 
 // The least nid of a node: 0 is none, and 1 and 2 stand for the tables themselves.
 const FIRST_NID: u32 = 3;

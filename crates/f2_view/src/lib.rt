@@ -4,7 +4,6 @@
 mod accessors;
 mod files;
 mod mounting;
-mod places;
 mod readings;
 mod summaries;
 
