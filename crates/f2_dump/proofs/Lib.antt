@@ -1,4 +1,5 @@
 pub mod FieldLines
 pub mod Heads
 pub mod Nodes
+pub mod NodesRead
 pub mod Sending

@@ -11,6 +11,7 @@ ghost use Rattle.f2_dump.specs.declared.dumping.DumpRefusal.TheVariants.{DiskFau
 
 use crate::gathering::{PIECE, put_text};
 use crate::hex::push_rows;
+use crate::inodes::dump_inode;
 use crate::lines::push_fields;
 use crate::names::CHECKPOINT_NAMES;
 use crate::ranges::{end_of, outside};
@@ -179,7 +180,7 @@ pub fn dump<D: Disk, O: Sink>(
         }
         What::Raw(address) => dump_block(alloc, address, d, o),
         What::Ssa(_, _) => Err(DumpRefusal::NoMemory),
-        What::Inode(_) => Err(DumpRefusal::NoMemory),
+        What::Inode(ino) => dump_inode(alloc, m, ino, d, o),
         What::Cat(_) => Err(DumpRefusal::NoMemory),
     }
 }

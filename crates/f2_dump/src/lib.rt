@@ -5,13 +5,14 @@ mod dumping;
 mod entries;
 mod gathering;
 mod hex;
+mod inodes;
 mod lines;
 mod names;
 mod ranges;
 mod tables;
 
 pub use dumping::{DumpRefusal, What, dump};
-pub use names::checkpoint_names_are_known;
+pub use names::{checkpoint_names_are_known, inode_names_are_known};
 
 #[cfg(test)]
 mod tests;
