@@ -1,3 +1,4 @@
+pub mod EntryLines
 pub mod FieldLines
 pub mod Heads
 pub mod Nodes

@@ -15,6 +15,7 @@ use crate::inodes::dump_inode;
 use crate::lines::push_fields;
 use crate::names::CHECKPOINT_NAMES;
 use crate::ranges::{end_of, outside};
+use crate::summaries::dump_summaries;
 use crate::tables::{dump_nodes, dump_segments};
 use f2_bytes::CHECKPOINT;
 use f2_disk::{Block, Disk, DiskFault, Sink};
@@ -179,7 +180,10 @@ pub fn dump<D: Disk, O: Sink>(
             dump_segments(alloc, m, first as u32, end, d, o)
         }
         What::Raw(address) => dump_block(alloc, address, d, o),
-        What::Ssa(_, _) => Err(DumpRefusal::NoMemory),
+        What::Ssa(first, last) => {
+            let end = end_of(m.layout().segments, first, last);
+            dump_summaries(alloc, m, first as u32, end, d, o)
+        }
         What::Inode(ino) => dump_inode(alloc, m, ino, d, o),
         What::Cat(_) => Err(DumpRefusal::NoMemory),
     }

@@ -9,6 +9,7 @@ mod inodes;
 mod lines;
 mod names;
 mod ranges;
+mod summaries;
 mod tables;
 
 pub use dumping::{DumpRefusal, What, dump};
