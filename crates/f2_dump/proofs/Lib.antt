@@ -1,5 +1,6 @@
 pub mod EntryLines
 pub mod FieldLines
+pub mod FileParts
 pub mod Heads
 pub mod Nodes
 pub mod NodesRead

@@ -91,7 +91,10 @@ unfoldable pub summary_lines : Image → ℕ → List ℕ
 summary_lines image segment =
     flat_map (λ k. summary_line segment k (summary image ((layout image).main + 512 * segment + k))) (numbers_below 512)
 
--- the lines of the numbers from one up to another
+-- the lines of the numbers below one, and from one up to another
+abbrev pub lines_below : (ℕ → List ℕ) → ℕ → List ℕ
+lines_below line end = flat_map line (numbers_below end)
+
 abbrev pub lines_between : (ℕ → List ℕ) → ℕ → ℕ → List ℕ
 lines_between line first end = flat_map line (range_with_len first (end - first))
 

@@ -9,6 +9,7 @@ ghost use Rattle.f2_dump.specs.Text.{dump_lines, block_lines, outside as is_outs
 ghost use Rattle.f2_dump.specs.Dump.{Dumps, Refuses, Lacks, Sinks, OnlySink, IsInside, reading_refusal};
 ghost use Rattle.f2_dump.specs.declared.dumping.DumpRefusal.TheVariants.{DiskFault as Faulted, NoMemory as MemoryShort};
 
+use crate::contents::dump_contents;
 use crate::gathering::{PIECE, put_text};
 use crate::hex::push_rows;
 use crate::inodes::dump_inode;
@@ -185,6 +186,6 @@ pub fn dump<D: Disk, O: Sink>(
             dump_summaries(alloc, m, first as u32, end, d, o)
         }
         What::Inode(ino) => dump_inode(alloc, m, ino, d, o),
-        What::Cat(_) => Err(DumpRefusal::NoMemory),
+        What::Cat(ino) => dump_contents(alloc, m, ino, d, o),
     }
 }
