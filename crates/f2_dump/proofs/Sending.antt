@@ -90,7 +90,7 @@ held_cut {a = a} {b0 = b0} {b1 = b1} {old = old} {new = new} c r is held =
 pub gathers_same : {T : Type 0} {lines more before after : List ℕ} {old new : Option (List ℕ)} (r : Result T DumpRefusal) → lines ≡ more → Gathers lines before after old new r → Gathers more before after old new r
 gathers_same {before = before} {after = after} {old = old} {new = new} r same g = subst (λ (l : List ℕ). Gathers l before after old new r) same g
 
-take_twice : (k n : ℕ) (l : List ℕ) → take k (take n l) ≡ take (min k n) l
+pub take_twice : (k n : ℕ) (l : List ℕ) → take k (take n l) ≡ take (min k n) l
 take_twice k n l = elim (cases_lt n k) [
   | inl less ↦
       let short : length (take n l) ≤ k = grind (arith, common_steps) in

@@ -2,3 +2,4 @@ pub mod Dump
 pub mod Fields
 pub mod Files
 pub mod Text
+pub mod Walk

@@ -8,7 +8,7 @@ use Rattle.f2_bytes.specs.Checkpoint.{checkpoint_rows, head}
 use Rattle.f2_bytes.specs.Journal.{NatEntry, SitEntry}
 use Rattle.f2_bytes.specs.NodeAddressTable.{nat, nid_limit}
 use Rattle.f2_bytes.specs.SegmentTable.{sit}
-use Rattle.f2_bytes.specs.Summary.{Summary, summary}
+use Rattle.f2_bytes.specs.Summary.{Summary, summary, summary_entry}
 use Rattle.f2_bytes.specs.Superblock.{layout}
 use Rattle.f2_dump.specs.Files.{inode_of, inode_lines, file_bytes, has_file}
 use Rattle.f2_dump.specs.Fields.{field_lines, checkpoint_names}
@@ -79,12 +79,22 @@ abbrev pub summary_line : ℕ → ℕ → Summary → List ℕ
 summary_line segment k s =
     decimal segment ++ codes " " ++ decimal k ++ codes " " ++ decimal s.nid ++ codes " " ++ decimal s.version ++ codes " " ++ decimal s.place ++ codes "\n"
 
+-- the lines of the entries of a segment's summary block
+abbrev pub entry_line : ℕ → Block → ℕ → List ℕ
+entry_line segment b k = summary_line segment k (summary_entry b k)
+
+unfoldable pub entry_lines : ℕ → Block → List ℕ
+entry_lines segment b = flat_map (entry_line segment b) (numbers_below 512)
+
 -- the lines of the summaries of a segment's 512 blocks
 unfoldable pub summary_lines : Image → ℕ → List ℕ
 summary_lines image segment =
     flat_map (λ k. summary_line segment k (summary image ((layout image).main + 512 * segment + k))) (numbers_below 512)
 
--- the lines of the numbers from one up to another
+-- the lines of the numbers below one, and from one up to another
+abbrev pub lines_below : (ℕ → List ℕ) → ℕ → List ℕ
+lines_below line end = flat_map line (numbers_below end)
+
 abbrev pub lines_between : (ℕ → List ℕ) → ℕ → ℕ → List ℕ
 lines_between line first end = flat_map line (range_with_len first (end - first))
 

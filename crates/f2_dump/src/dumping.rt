@@ -9,11 +9,14 @@ ghost use Rattle.f2_dump.specs.Text.{dump_lines, block_lines, outside as is_outs
 ghost use Rattle.f2_dump.specs.Dump.{Dumps, Refuses, Lacks, Sinks, OnlySink, IsInside, reading_refusal};
 ghost use Rattle.f2_dump.specs.declared.dumping.DumpRefusal.TheVariants.{DiskFault as Faulted, NoMemory as MemoryShort};
 
+use crate::contents::dump_contents;
 use crate::gathering::{PIECE, put_text};
 use crate::hex::push_rows;
+use crate::inodes::dump_inode;
 use crate::lines::push_fields;
 use crate::names::CHECKPOINT_NAMES;
 use crate::ranges::{end_of, outside};
+use crate::summaries::dump_summaries;
 use crate::tables::{dump_nodes, dump_segments};
 use f2_bytes::CHECKPOINT;
 use f2_disk::{Block, Disk, DiskFault, Sink};
@@ -178,8 +181,11 @@ pub fn dump<D: Disk, O: Sink>(
             dump_segments(alloc, m, first as u32, end, d, o)
         }
         What::Raw(address) => dump_block(alloc, address, d, o),
-        What::Ssa(_, _) => Err(DumpRefusal::NoMemory),
-        What::Inode(_) => Err(DumpRefusal::NoMemory),
-        What::Cat(_) => Err(DumpRefusal::NoMemory),
+        What::Ssa(first, last) => {
+            let end = end_of(m.layout().segments, first, last);
+            dump_summaries(alloc, m, first as u32, end, d, o)
+        }
+        What::Inode(ino) => dump_inode(alloc, m, ino, d, o),
+        What::Cat(ino) => dump_contents(alloc, m, ino, d, o),
     }
 }

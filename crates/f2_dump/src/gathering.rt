@@ -1,5 +1,5 @@
 // A text that is gathered line by line, and put in pieces.
-ghost use Rattle.std.specs.Prelude.{◌≡◌, ◌≤◌, List, ℕ, [], ◌++◌, length, OnOk, IfErr};
+ghost use Rattle.std.specs.Prelude.{◌≡◌, ◌≤◌, ◌+◌, List, ℕ, [], ◌++◌, length, OnOk, IfErr};
 ghost use Rattle.f2_dump.specs.Dump.{Dumps, Gathers, Ends, Sinks, OnlySink};
 
 use crate::DumpRefusal;
@@ -39,7 +39,34 @@ fn flush<O: Sink>(text: &mut Vec<u8>, o: &mut O) -> Result<(), DumpRefusal>
     put
 }
 
-// Goes on after a line was appended to the text, or was not for want of memory: then the whole text is dropped.
+// Goes on after bytes were appended to the text, or were not for want of memory: then the whole text is dropped. Leaves
+// room for so many more.
+pub(crate) fn keep_room<O: Sink>(
+    text: &mut Vec<u8>,
+    o: &mut O,
+    pushed: Result<(), AllocError>,
+    room: usize,
+) -> Result<(), DumpRefusal>
+    requires text { length text.old.items ≤ PIECE }
+    requires room { room ≤ PIECE }
+    ensures text { (before line : List ℕ) → OnOk pushed (text.old.items ≡ before ++ line)
+        → Gathers line before text.new.items (O.told o.old) (O.told o.new) result }
+    ensures room { length text.new.items + room ≤ PIECE }
+    ensures sink { Sinks (O.faults o.old) (O.faults o.new) result }
+    ensures only { OnlySink result }
+{
+    if pushed.is_err() {
+        text.clear();
+        return Err(DumpRefusal::NoMemory);
+    }
+    if text.len() > PIECE - room {
+        flush(text, o)
+    } else {
+        Ok(())
+    }
+}
+
+// Goes on likewise after a line, and leaves room for one more.
 pub(crate) fn keep<O: Sink>(
     text: &mut Vec<u8>,
     o: &mut O,
@@ -52,15 +79,7 @@ pub(crate) fn keep<O: Sink>(
     ensures sink { Sinks (O.faults o.old) (O.faults o.new) result }
     ensures only { OnlySink result }
 {
-    if pushed.is_err() {
-        text.clear();
-        return Err(DumpRefusal::NoMemory);
-    }
-    if text.len() > FULL {
-        flush(text, o)
-    } else {
-        Ok(())
-    }
+    keep_room(text, o, pushed, PIECE - FULL)
 }
 
 // Puts what is left of a text, also after a refusal, and ends with this answer.

@@ -1,6 +1,7 @@
 // The names of a record's fields.
 ghost use Rattle.std.specs.Prelude.{◌≡◌, map};
 ghost use Rattle.f2_dump.specs.Fields.{checkpoint_names};
+ghost use Rattle.f2_dump.specs.Files.{inode_names};
 
 /// The names of the fields of a checkpoint, in the order of `f2_bytes::CHECKPOINT`.
 pub const CHECKPOINT_NAMES: [&str; 65] = [
@@ -74,4 +75,42 @@ pub const CHECKPOINT_NAMES: [&str; 65] = [
 /// The names are those of the format.
 pub fn checkpoint_names_are_known()
     ensures { map (λ name. name.now) CHECKPOINT_NAMES ≡ checkpoint_names }
+{}
+
+/// The names of the fields of an inode, in the order of `f2_node::INODE`.
+pub const INODE_NAMES: [&str; 29] = [
+    "mode",
+    "advise",
+    "inline",
+    "uid",
+    "gid",
+    "links",
+    "size",
+    "blocks",
+    "atime",
+    "ctime",
+    "mtime",
+    "atime_nsec",
+    "ctime_nsec",
+    "mtime_nsec",
+    "generation",
+    "current_depth",
+    "xattr_nid",
+    "flags",
+    "pino",
+    "namelen",
+    "dir_level",
+    "ext_fofs",
+    "ext_addr",
+    "ext_len",
+    "nid[0]",
+    "nid[1]",
+    "nid[2]",
+    "nid[3]",
+    "nid[4]",
+];
+
+/// The names are those of the format.
+pub fn inode_names_are_known()
+    ensures { map (λ name. name.now) INODE_NAMES ≡ inode_names }
 {}

@@ -7,6 +7,7 @@ use Rattle.f2_dump.specs.declared.dumping.What.{What}
 use Rattle.f2_bytes.specs.declared.layout.Layout.{Layout}
 use Rattle.f2_dump.proofs.Heads.{head_of}
 use Rattle.f2_dump.proofs.Nodes.{node_text, segment_text}
+use Rattle.f2_dump.proofs.EntryLines.{ssa_text}
 use Rattle.f2_dump.proofs.dumping.dump.Goals as goal
 
 pub returns-in-Cp-clause-lines : goal.returns-in-Cp-clause-lines
@@ -38,3 +39,12 @@ returns-in-Raw-clause-lines g c = λ image told of.
     let had = g.O.Sink.told c.args.o.now in
     let told_now = g.O.Sink.told c.dump_block.new.o in
     subst (λ (w : What). Dumps {T = Unit {0}} (dump_lines image w) had told_now c.dump_block.result) (sym c.in-Raw.is) (c.dump_block.ensures.lines image told)
+
+pub returns-in-Ssa-clause-lines : goal.returns-in-Ssa-clause-lines
+returns-in-Ssa-clause-lines g c = λ image told of.
+    let had = g.O.Sink.told c.args.o.now in
+    let told_now = g.O.Sink.told c.dump_summaries.new.o in
+    let segments = ap (λ (l : Layout). l.segments) c.layout-in-Ssa.ensures.value in
+    let text = ssa_text image c.args.m.now c.layout-in-Ssa.result.segments c.in-Ssa.first c.end_of-end-in-Ssa.result c.in-Ssa.last of segments c.end_of-end-in-Ssa.ensures.numbers in
+    let own = subst (λ (l : List ℕ). Dumps {T = Unit {0}} l had told_now c.dump_summaries.result) text (c.dump_summaries.ensures.lines image told of) in
+    subst (λ (w : What). Dumps {T = Unit {0}} (dump_lines image w) had told_now c.dump_summaries.result) (sym c.in-Ssa.is) own
