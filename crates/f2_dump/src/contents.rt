@@ -12,10 +12,10 @@ ghost use Rattle.f2_dump.specs.Text.{bytes_of_file, missing as is_missing};
 
 use crate::blocks::dump_blocks;
 use crate::gathering::{PIECE, put_text};
-use crate::inodes::{has_bytes, is_inline, read_inode};
+use crate::inodes::read_inode;
 use crate::{DumpRefusal, What};
 use f2_disk::{Block, Disk, Sink};
-use f2_node::{inline_range, inode_field};
+use f2_node::{has_bytes, inline_range, inode_field, is_inline};
 use f2_view::Mount;
 use std::alloc::Global;
 

@@ -1,12 +1,11 @@
 // Inodes, and the dump of one.
 ghost use Rattle.std.specs.Prelude.{◌≡◌, ◌≤◌, ◌<◌, ◌+◌, ◌*◌, ◌++◌, [], Some, None, if◌then◌else◌, IfOk, OnOk, IsErrOf, length};
 ghost use Rattle.f2_bytes.specs.Bytes.{Image};
-ghost use Rattle.f2_bytes.specs.Node.{has_slots as names_blocks, is_inline as stands_inline};
+ghost use Rattle.f2_bytes.specs.Node.{has_slots as names_blocks};
 ghost use Rattle.f2_disk.specs.Disk.{Reads, Goes, Rose};
 ghost use Rattle.f2_view.specs.Mounted.{IsMountOf, layout_in};
 ghost use Rattle.f2_dump.specs.Dump.{Dumps, Refuses, Lacks, Sinks, OnlySink, OnlyReads};
 ghost use Rattle.f2_dump.specs.Files.{inode_of, inode_lines, address_line, address_lines};
-ghost use Rattle.f2_dump.specs.Files.{has_bytes as is_dumped};
 ghost use Rattle.f2_dump.specs.Text.{lines_of_inode, missing as is_missing};
 
 use crate::entries::push_decimal;
@@ -15,42 +14,9 @@ use crate::lines::push_fields;
 use crate::names::INODE_NAMES;
 use crate::{DumpRefusal, What};
 use f2_disk::{Block, Disk, Sink};
-use f2_node::{INODE, addresses, inode_field, word};
+use f2_node::{INODE, addresses, has_slots, word};
 use f2_view::Mount;
 use std::alloc::{AllocError, Global};
-
-// The kinds of files whose bytes are dumped, and directories, as the upper four bits of a mode say them.
-const REGULAR: u64 = 8;
-
-const SYMLINK: u64 = 10;
-
-const DIRECTORY: u64 = 4;
-
-// Whether the bytes of a file are dumped.
-pub(crate) fn has_bytes(b: &Block) -> bool
-    ensures { result ≡ is_dumped b.now }
-{
-    let kind = inode_field(b, 0) / 4096;
-    kind == REGULAR || kind == SYMLINK
-}
-
-// Whether the bytes or the names of a file stand in its inode.
-pub(crate) fn is_inline(b: &Block) -> bool
-    ensures { result ≡ stands_inline b.now }
-{
-    let flags = inode_field(b, 2);
-    let kind = inode_field(b, 0) / 4096;
-    ((kind == REGULAR || kind == SYMLINK) && flags / 2 % 2 == 1)
-        || (kind == DIRECTORY && flags / 4 % 2 == 1)
-}
-
-// Whether the address words of an inode name blocks.
-fn has_slots(b: &Block) -> bool
-    ensures { result ≡ names_blocks b.now }
-{
-    let kind = inode_field(b, 0) / 4096;
-    (kind == REGULAR || kind == SYMLINK || kind == DIRECTORY) && !is_inline(b)
-}
 
 // Reads the inode with this number: true exactly where there is one.
 pub(crate) fn read_inode<D: Disk>(
