@@ -1,7 +1,7 @@
 -- The jobs, and the words that name them.
 use Rattle.std.specs.Prelude.{ℕ, Bool, true, false, ◌&&◌, if◌then◌else◌, List, [], ◌∷◌, codes, bytes_eq, Option, Some, None, option_map}
-use Rattle.f2_dump.specs.declared.dumping.What.TheVariants.{Cp, Nat, Sit, Raw}
-use Rattle.f2_top.specs.Numbers.{number_of, range_of}
+use Rattle.f2_dump.specs.declared.dumping.What.TheVariants.{Cp, Nat, Sit, Raw, Ssa, Inode, Cat}
+use Rattle.f2_top.specs.Numbers.{number_of, ino_of, range_of}
 use Rattle.f2_top.specs.declared.jobs.Job.{Job}
 use Rattle.f2_top.specs.declared.jobs.Job.TheVariants.{Super, Dump}
 
@@ -14,12 +14,16 @@ abbrev pub plain_job : List ℕ → List ℕ → Option Job
 plain_job tool option =
     if are_words tool option (codes "fsck") (codes "--super") then Some Super else (if are_words tool option (codes "dump") (codes "--cp") then Some (Dump Cp) else None)
 
--- and of a tool, an option and its value: dump -n RANGE, dump -s RANGE, dump --block ADDRESS
+-- and of a tool, an option and its value: dump -n RANGE, dump -s RANGE, dump -a RANGE, dump --block ADDRESS, dump -i INO,
+-- dump --cat INO
 abbrev pub value_job : List ℕ → List ℕ → List ℕ → Option Job
 value_job tool option value =
     if are_words tool option (codes "dump") (codes "-n") then option_map (λ range. Dump (Nat range.0 range.1)) (range_of value)
     else (if are_words tool option (codes "dump") (codes "-s") then option_map (λ range. Dump (Sit range.0 range.1)) (range_of value)
-    else (if are_words tool option (codes "dump") (codes "--block") then option_map (λ address. Dump (Raw address)) (number_of value) else None))
+    else (if are_words tool option (codes "dump") (codes "-a") then option_map (λ range. Dump (Ssa range.0 range.1)) (range_of value)
+    else (if are_words tool option (codes "dump") (codes "--block") then option_map (λ address. Dump (Raw address)) (number_of value)
+    else (if are_words tool option (codes "dump") (codes "-i") then option_map (λ ino. Dump (Inode ino)) (ino_of value)
+    else (if are_words tool option (codes "dump") (codes "--cat") then option_map (λ ino. Dump (Cat ino)) (ino_of value) else None)))))
 
 -- the job that the words name, if any
 abbrev pub job_of : List (List ℕ) → Option Job

@@ -1,4 +1,4 @@
--- The texts of numbers and of ranges.
+-- The texts of numbers, of inode numbers and of ranges.
 use Rattle.std.specs.Prelude.{ℕ, ◌^◌, Bool, ◌&&◌, ◌==◌, nat_eq, nat_lt, if◌then◌else◌, List, length, drop, codes, bytes_eq, Option, Some, None, option_map}
 use Rattle.std.specs.Char.{digit_value}
 use Rattle.std.specs.List.{list_all, starts_with, before_first, after_first}
@@ -16,6 +16,10 @@ numeral_of base text = if is_numeral base text && nat_lt (digits_value base text
 -- the number that a text writes: hexadecimal digits after `0x`, or decimal ones
 unfoldable pub number_of : List ℕ → Option ℕ
 number_of text = if starts_with nat_eq text (codes "0x") then numeral_of 16 (drop 2 text) else numeral_of 10 text
+
+-- the inode number that a text writes: a number of at most 32 bits
+unfoldable pub ino_of : List ℕ → Option ℕ
+ino_of text = option_and_then (λ n. if nat_lt n (2 ^ 32) then Some n else None) (number_of text)
 
 -- the last number of a range: `-1` is none, so that the range has no end
 unfoldable pub end_of : List ℕ → Option (Option ℕ)

@@ -12,12 +12,12 @@ use Rattle.f2_view.specs.Mounting.{mounted}
 use Rattle.f2_view.specs.declared.mounting.MountRefusal.{MountRefusal}
 use Rattle.f2_view.specs.declared.mounting.MountRefusal.TheVariants as mount
 use Rattle.f2_dump.specs.declared.dumping.What.{What}
-use Rattle.f2_dump.specs.Text.{dump_lines, outside}
+use Rattle.f2_dump.specs.Text.{dump_lines, missing, outside}
 use Rattle.f2_top.specs.Jobs.{takes_memory}
 use Rattle.f2_top.specs.Text.{IsText}
 use Rattle.f2_top.specs.declared.answer.Answer.{Answer}
 use Rattle.f2_top.specs.declared.answer.Answer.TheVariants.{Done, Corrected, DiskFault, SinkFault, Usage, Refused, NoMemory}
-use Rattle.f2_top.specs.declared.answer.Refusal.TheVariants.{NoSuper, Unsupported, TooLarge, Truncated, NoPack, VersionLimit, BadSummary, OutOfRange}
+use Rattle.f2_top.specs.declared.answer.Refusal.TheVariants.{NoSuper, Unsupported, TooLarge, Truncated, NoPack, VersionLimit, BadSummary, OutOfRange, NoSuchNode}
 use Rattle.f2_top.specs.declared.jobs.Job.{Job}
 use Rattle.f2_top.specs.declared.jobs.Job.TheVariants.{Super, Dump}
 
@@ -47,15 +47,16 @@ mount_answer (mount.BadSummary count) = Refused (BadSummary count)
 mount_answer mount.DiskFault = DiskFault
 mount_answer mount.NoMemory = NoMemory
 
--- the answer of a dump, where this number of it lies outside, if any
-abbrev pub range_answer : Option ℕ → Answer
-range_answer None = Done
-range_answer (Some number) = Refused (OutOfRange number)
+-- the answer of a dump, where this number of it lies outside, and where the image lacks this inode or its bytes, if any
+abbrev pub number_answer : Option ℕ → Option ℕ → Answer
+number_answer None None = Done
+number_answer None (Some ino) = Refused (NoSuchNode ino)
+number_answer (Some number) lacking = Refused (OutOfRange number)
 
--- what a dump answers to what was mounted, without a fault
-abbrev pub dump_answer : What → Result Mounted MountRefusal → Answer
-dump_answer what (Ok m) = range_answer (outside (layout_in m) what)
-dump_answer what (Err refusal) = mount_answer refusal
+-- what a dump of an image answers to what was mounted of it, without a fault
+abbrev pub dump_answer : What → Image → Result Mounted MountRefusal → Answer
+dump_answer what image (Ok m) = number_answer (outside (layout_in m) what) (missing image what)
+dump_answer what image (Err refusal) = mount_answer refusal
 
 -- and its lines, which are those of the image
 abbrev pub mounted_lines : What → Image → Result Mounted MountRefusal → List ℕ
@@ -66,7 +67,7 @@ mounted_lines what image (Err refusal) = []
 abbrev pub answer_of : Option Job → ℕ → Image → Answer
 answer_of None size image = Usage
 answer_of (Some Super) size image = super_answer (loaded size image)
-answer_of (Some (Dump what)) size image = dump_answer what (mounted size image)
+answer_of (Some (Dump what)) size image = dump_answer what image (mounted size image)
 
 -- the image that it leaves
 abbrev pub image_of : Option Job → ℕ → Image → Image
@@ -96,7 +97,7 @@ abbrev pub IsAnswered : Option Job → ℕ → Image → Answer → Type 0
 IsAnswered None size image answer = answer ≡ Usage
 IsAnswered (Some Super) size image answer =
     (answer ≡ super_answer (loaded size image)) × (is_loadable image ≡ true → answer ≡ (if has_twins image then Done else Corrected))
-IsAnswered (Some (Dump what)) size image answer = (answer ≡ dump_answer what (mounted size image)) ⊎ (answer ≡ NoMemory)
+IsAnswered (Some (Dump what)) size image answer = (answer ≡ dump_answer what image (mounted size image)) ⊎ (answer ≡ NoMemory)
 
 -- What a sink tells that held these bytes before: the text of the answer, or, where the sink failed, a prefix of the text
 -- of an answer that was allowed.

@@ -38,6 +38,8 @@ pub enum Refusal {
     /// This number is at or past the limit of what can be dumped of the image, or is the first of a range and lies above
     /// its last.
     OutOfRange(u64),
+    /// The image has no inode with this number, or its bytes are asked for and it is no regular file or symbolic link.
+    NoSuchNode(u32),
 }
 
 impl Answer {

@@ -241,7 +241,7 @@ fn a_dump_meets_faults(rt: HostRuntime) -> Result<(), Fail> {
 }
 
 // Dumps of numbers that the image lacks, which has 232,960 nids, 24 main segments and 16,384 blocks.
-const OUTSIDE: [(&str, &str, u64, &str); 14] = [
+const OUTSIDE: [(&str, &str, u64, &str); 18] = [
     ("-n", "232960~-1", 232_960, "refused 14 OutOfRange 232960\n"),
     ("-n", "0~232960", 232_960, "refused 14 OutOfRange 232960\n"),
     (
@@ -268,6 +268,10 @@ const OUTSIDE: [(&str, &str, u64, &str); 14] = [
         4_294_967_296,
         "refused 14 OutOfRange 4294967296\n",
     ),
+    ("-a", "24~-1", 24, "refused 14 OutOfRange 24\n"),
+    ("-a", "0~24", 24, "refused 14 OutOfRange 24\n"),
+    ("-a", "25~24", 25, "refused 14 OutOfRange 25\n"),
+    ("-a", "23~22", 23, "refused 14 OutOfRange 23\n"),
     ("--block", "16384", 16384, "refused 14 OutOfRange 16384\n"),
     ("--block", "0x4000", 16384, "refused 14 OutOfRange 16384\n"),
     (
@@ -298,11 +302,13 @@ fn numbers_outside_are_refused(rt: HostRuntime) -> Result<(), Fail> {
 }
 
 // Dumps of the least and greatest numbers that it has.
-const INSIDE: [(&str, &str); 6] = [
+const INSIDE: [(&str, &str); 8] = [
     ("-n", "0~0"),
     ("-n", "232959~232959"),
     ("-s", "0~23"),
     ("-s", "23~-1"),
+    ("-a", "0~23"),
+    ("-a", "23~-1"),
     ("--block", "0"),
     ("--block", "16383"),
 ];

@@ -35,9 +35,9 @@ fn refused(refusal: MountRefusal) -> Answer
 pub fn dump_image<D: Disk, O: Sink>(alloc: Global, what: What, disk: &mut D, out: &mut O) -> Answer
     // Which answer it is.
     ensures exact { (image : Image) → (D.state disk.old).told ≡ Some image
-        → (result ≡ dump_answer what (mounted (D.state disk.old).size image)) ⊎ ((result ≡ Answer.DiskFault) ⊎ ((result ≡ Answer.NoMemory) ⊎ (result ≡ Answer.SinkFault))) }
+        → (result ≡ dump_answer what image (mounted (D.state disk.old).size image)) ⊎ ((result ≡ Answer.DiskFault) ⊎ ((result ≡ Answer.NoMemory) ⊎ (result ≡ Answer.SinkFault))) }
     ensures sink_fault { (image : Image) → (D.state disk.old).told ≡ Some image → result ≡ Answer.SinkFault
-        → dump_answer what (mounted (D.state disk.old).size image) ≡ Answer.Done }
+        → dump_answer what image (mounted (D.state disk.old).size image) ≡ Answer.Done }
     ensures fault { result ≡ Answer.DiskFault → Rose (D.state disk.old).faults (D.state disk.new).faults }
     ensures sink { result ≡ Answer.SinkFault → Rose (O.faults out.old) (O.faults out.new) }
     ensures others { (result ≢ Answer.Usage) × (result ≢ Answer.Corrected) }
@@ -58,6 +58,7 @@ pub fn dump_image<D: Disk, O: Sink>(alloc: Global, what: What, disk: &mut D, out
             Err(DumpRefusal::SinkFault) => Answer::SinkFault,
             Err(DumpRefusal::NoMemory) => Answer::NoMemory,
             Err(DumpRefusal::OutOfRange(number)) => Answer::Refused(Refusal::OutOfRange(number)),
+            Err(DumpRefusal::NoSuchNode(ino)) => Answer::Refused(Refusal::NoSuchNode(ino)),
         },
         Err(refusal) => refused(refusal),
     }

@@ -1,6 +1,6 @@
-// The texts of numbers and of ranges.
+// The texts of numbers, of inode numbers and of ranges.
 ghost use Rattle.std.specs.Prelude.{◌≡◌, ◌≤◌};
-ghost use Rattle.f2_top.specs.Numbers.{numeral_of, number_of, end_of, range_of};
+ghost use Rattle.f2_top.specs.Numbers.{numeral_of, number_of, ino_of, end_of, range_of};
 
 // The number that the digits of a base write.
 fn numeral(text: &str, base: u32) -> Option<u64>
@@ -22,6 +22,19 @@ pub fn number(text: &str) -> Option<u64>
     match text.strip_prefix("0x") {
         Some(digits) => numeral(digits, 16),
         None => numeral(text, 10),
+    }
+}
+
+/// The inode number that a text writes, if it writes a number of 32 bits.
+#[tactic(auto, unfolding(crate::specs::Numbers::ino_of))]
+pub fn ino(text: &str) -> Option<u32>
+    ensures { result ≡ ino_of text.now }
+{
+    let number = number(text)?;
+    if number < 1 << 32 {
+        Some(number as u32)
+    } else {
+        None
     }
 }
 

@@ -44,6 +44,9 @@ fn put_refusal<O: Sink>(out: &mut O, refusal: &Refusal) -> Result<(), SinkFault>
             put_number(out, b"refused 7 BadSummary ", u64::from(*count), b"\n")
         }
         Refusal::OutOfRange(number) => put_number(out, b"refused 14 OutOfRange ", *number, b"\n"),
+        Refusal::NoSuchNode(ino) => {
+            put_number(out, b"refused 15 NoSuchNode ", u64::from(*ino), b"\n")
+        }
     }
 }
 

@@ -50,10 +50,11 @@ fn answer<D: Disk, O: Sink>(alloc: Global, job: Option<Job>, disk: &mut D, out: 
 /// Does the job that the words name, and puts the text of its answer.
 ///
 /// The words are those of the command line after the image, the tool and its options: `fsck --super`, `dump --cp`,
-/// `dump -n A~B`, `dump -s A~B` and `dump --block ADDRESS`. `_moment` is the second of the clock and `_id` a uuid, for
-/// the jobs that make an image; no job looks at either yet. `fsck --super` puts nothing before the disk's last write, so
-/// a fault of the sink leaves on the disk what the job's own answer leaves, and it takes no memory. A dump of a number
-/// that lies outside puts nothing but its last line.
+/// `dump -n A~B`, `dump -s A~B`, `dump -a A~B`, `dump --block ADDRESS`, `dump -i INO` and `dump --cat INO`. `_moment` is
+/// the second of the clock and `_id` a uuid, for the jobs that make an image; no job looks at either yet. `fsck --super`
+/// puts nothing before the disk's last write, so a fault of the sink leaves on the disk what the job's own answer leaves,
+/// and it takes no memory. A dump of a number that lies outside, or that the image has no inode of, puts nothing but its
+/// last line.
 pub fn run<D: Disk, O: Sink>(
     alloc: Global,
     words: &[String],
@@ -84,7 +85,8 @@ pub fn run<D: Disk, O: Sink>(
 
     // Unless the disk or the sink has a fault, it answers by the image: fsck --super on an image that can be loaded Done
     // exactly where both superblock copies pass and agree, else Corrected, and a dump of an image that can be mounted
-    // Done, or OutOfRange exactly where a number of it lies outside, or NoMemory.
+    // Done, or OutOfRange exactly where a number of it lies outside, or NoSuchNode exactly where it asks for an inode or
+    // a file that the image lacks, or NoMemory.
     ensures complete { (image : Image) → (D.state disk.old).told ≡ Some image
         → ¬ (Rose (D.state disk.old).faults (D.state disk.new).faults) → ¬ (Rose (O.faults out.old) (O.faults out.new))
         → IsAnswered (job_of (map string_bytes words.now)) (D.state disk.old).size image result }

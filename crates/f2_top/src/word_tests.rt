@@ -9,7 +9,7 @@ use std::test::Fail;
 const MOST: u64 = 0xFFFF_FFFF_FFFF_FFFF;
 
 // Words that are no option with a value.
-const PLAIN: [(&[&str], Option<Job>); 24] = [
+const PLAIN: [(&[&str], Option<Job>); 45] = [
     (&["fsck", "--super"], Some(Job::Super)),
     (&["dump", "--cp"], Some(Job::Dump(What::Cp))),
     (&[], None),
@@ -32,7 +32,28 @@ const PLAIN: [(&[&str], Option<Job>); 24] = [
     (&["dump", "-S", "3~4"], None),
     (&["dump", "--n", "3~4"], None),
     (&["dump", "-block", "3"], None),
-    (&["dump", "-i", "3"], None),
+    (&["dump", "-a"], None),
+    (&["dump", "-i"], None),
+    (&["dump", "--cat"], None),
+    (&["dump", "-a", "3"], None),
+    (&["dump", "-i", "3~4"], None),
+    (&["dump", "--cat", "3~4"], None),
+    (&["dump", "-a", "3~4", ""], None),
+    (&["dump", "-i", "3", "4"], None),
+    (&["dump", "--cat", "3", "4"], None),
+    (&["fsck", "-a", "3~4"], None),
+    (&["fsck", "-i", "3"], None),
+    (&["fsck", "--cat", "3"], None),
+    (&["-i", "dump", "3"], None),
+    (&["dump", "3", "--cat"], None),
+    (&["dump", "-A", "3~4"], None),
+    (&["dump", "--a", "3~4"], None),
+    (&["dump", "-I", "3"], None),
+    (&["dump", "--i", "3"], None),
+    (&["dump", "-cat", "3"], None),
+    (&["dump", "--Cat", "3"], None),
+    (&["dump", "cat", "3"], None),
+    (&["dump", "--cat=3"], None),
     (&["Dump", "--block", "3"], None),
 ];
 
@@ -80,6 +101,31 @@ const NUMBERS: [(&str, Option<u64>); 42] = [
     ("0b1", None),
     ("\u{663}", None),
     ("\u{ff13}", None),
+];
+
+// Inode numbers, and what they are.
+const INODES: [(&str, Option<u32>); 21] = [
+    ("0", Some(0)),
+    ("3", Some(3)),
+    ("0x10", Some(16)),
+    ("0xaB", Some(171)),
+    ("4294967294", Some(4_294_967_294)),
+    ("4294967295", Some(4_294_967_295)),
+    ("00000000000000000000004294967295", Some(4_294_967_295)),
+    ("0xffffffff", Some(4_294_967_295)),
+    ("0x000000000ffffffff", Some(4_294_967_295)),
+    ("4294967296", None),
+    ("4294967299", None),
+    ("0x100000000", None),
+    ("0x1ffffffff", None),
+    ("18446744073709551615", None),
+    ("18446744073709551616", None),
+    ("", None),
+    ("0x", None),
+    ("-1", None),
+    ("+3", None),
+    ("3 ", None),
+    ("3a", None),
 ];
 
 // Ranges, and their ends.
@@ -146,20 +192,47 @@ fn addresses_are_numbers(rt: HostRuntime) -> Result<(), Fail> {
 }
 
 #[test]
+fn inodes_have_numbers_of_32_bits(rt: HostRuntime) -> Result<(), Fail> {
+    let alloc = rt.alloc();
+    for (text, number) in INODES {
+        let (inode, bytes) = match number {
+            Some(ino) => (
+                Some(Job::Dump(What::Inode(ino))),
+                Some(Job::Dump(What::Cat(ino))),
+            ),
+            None => (None, None),
+        };
+        assert_eq!(rt; job(&words(alloc, &["dump", "-i", text])?), inode, "{text}");
+        assert_eq!(rt;
+            job(&words(alloc, &["dump", "--cat", text])?),
+            bytes,
+            "{text}"
+        );
+    }
+    Ok(())
+}
+
+#[test]
 fn ranges_have_two_ends(rt: HostRuntime) -> Result<(), Fail> {
     let alloc = rt.alloc();
     for (text, range) in RANGES {
-        let (nodes, segments) = match range {
+        let (nodes, segments, summaries) = match range {
             Some((first, last)) => (
                 Some(Job::Dump(What::Nat(first, last))),
                 Some(Job::Dump(What::Sit(first, last))),
+                Some(Job::Dump(What::Ssa(first, last))),
             ),
-            None => (None, None),
+            None => (None, None, None),
         };
         assert_eq!(rt; job(&words(alloc, &["dump", "-n", text])?), nodes, "{text}");
         assert_eq!(rt;
             job(&words(alloc, &["dump", "-s", text])?),
             segments,
+            "{text}"
+        );
+        assert_eq!(rt;
+            job(&words(alloc, &["dump", "-a", text])?),
+            summaries,
             "{text}"
         );
     }

@@ -3,7 +3,7 @@ ghost use Rattle.std.specs.Prelude.{◌≡◌, map, string_bytes};
 ghost use Rattle.f2_top.specs.Jobs.{plain_job, value_job, job_of};
 
 use crate::jobs::Job;
-use crate::numbers::{number, range};
+use crate::numbers::{ino, number, range};
 use f2_dump::What;
 
 // The job of a tool and an option.
@@ -29,8 +29,15 @@ fn valued(tool: &str, option: &str, value: &str) -> Option<Job>
     } else if tool == "dump" && option == "-s" {
         let (first, last) = range(value)?;
         Some(Job::Dump(What::Sit(first, last)))
+    } else if tool == "dump" && option == "-a" {
+        let (first, last) = range(value)?;
+        Some(Job::Dump(What::Ssa(first, last)))
     } else if tool == "dump" && option == "--block" {
         Some(Job::Dump(What::Raw(number(value)?)))
+    } else if tool == "dump" && option == "-i" {
+        Some(Job::Dump(What::Inode(ino(value)?)))
+    } else if tool == "dump" && option == "--cat" {
+        Some(Job::Dump(What::Cat(ino(value)?)))
     } else {
         None
     }

@@ -2,18 +2,17 @@ use Rattle.std.proofs.Common.{◌≡◌, ◌≢◌, ◌∙◌, ◌++◌, ℕ, Li
 use Rattle.std.proofs.lemmas.List.{append-nil}
 use Rattle.f2_bytes.specs.Bytes.{Image}
 use Rattle.f2_disk.proofs.Runs.{reads_then}
-use Rattle.f2_view.specs.Mounted.{Mounted}
+use Rattle.f2_view.specs.Mounted.{Mounted, layout_in}
 use Rattle.f2_view.specs.Mounting.{mounted}
 use Rattle.f2_view.specs.declared.mounting.MountRefusal.{MountRefusal}
 use Rattle.f2_view.specs.declared.mounting.MountRefusal.TheVariants as mount
-use Rattle.f2_dump.specs.Dump.{Refuses}
+use Rattle.f2_dump.specs.Dump.{Refuses, Lacks}
 use Rattle.f2_dump.specs.declared.dumping.DumpRefusal.{DumpRefusal}
 use Rattle.f2_dump.specs.declared.dumping.DumpRefusal.TheVariants.{OutOfRange}
 use Rattle.f2_dump.specs.declared.dumping.What.{What}
-use Rattle.f2_dump.specs.Text.{dump_lines}
-use Rattle.f2_top.specs.Run.{range_answer, mount_answer, dump_answer, mounted_lines}
+use Rattle.f2_dump.specs.Text.{dump_lines, missing, outside}
+use Rattle.f2_top.specs.Run.{number_answer, mount_answer, dump_answer, mounted_lines}
 use Rattle.f2_top.specs.Text.{IsFront}
-use Rattle.f2_top.specs.declared.answer.Answer.TheVariants.{Done}
 use Rattle.f2_top.proofs.dumps.dump_image.Goals as goal
 
 -- a dump that ended early put a prefix of the lines
@@ -31,29 +30,53 @@ pub returns-in-Err-NoMemory-clause-lines : goal.returns-in-Err-NoMemory-clause-l
 returns-in-Err-NoMemory-clause-lines g c = λ had told image told'. let reads = c.mount.ensures.reads in cut c.args.what image c.in-Ok.m _ had _ (c.in-Ok.ensures.exact image told') ((c.dump.ensures.lines image (reads.told ∙ told') (c.in-Ok.ensures.of_image image told')).part had told)
 
 -- a dump that refused no number had none that lies outside
-inside : {T : Type 0} (outside : Option ℕ) (old new : Option (List ℕ)) (result : Result T DumpRefusal) → Refuses outside old new result → ((n : ℕ) → result ≢ Err (OutOfRange n)) → range_answer outside ≡ Done
+inside : {T : Type 0} (outside : Option ℕ) (old new : Option (List ℕ)) (result : Result T DumpRefusal) → Refuses outside old new result → ((n : ℕ) → result ≢ Err (OutOfRange n)) → outside ≡ None
 inside None old new result refuses other = refl
 inside (Some n) old new result refuses other = absurd (other n ((refuses.exact n).1 refl))
 
 pub returns-in-Ok-dump-clause-reads : goal.returns-in-Ok-dump-clause-reads
 returns-in-Ok-dump-clause-reads g c = reads_then c.mount.ensures.goes.later c.mount.ensures.reads c.dump.ensures.reads
 
+-- a dump that was done lacked nothing
+found : {T : Type 0} (lacking : Option ℕ) (result : Result T DumpRefusal) → Lacks lacking result → ((e : DumpRefusal) → result ≢ Err e) → lacking ≡ None
+found lacking (Ok x) lacks done = lacks.done
+found lacking (Err e) lacks done = absurd (done e refl)
+
+-- what a dump answers where this number lies outside and this inode is missing
+answer_is : (what : What) (image : Image) (m : Mounted) (is : Result Mounted MountRefusal) (number ino : Option ℕ) → Ok m ≡ is → outside (layout_in m) what ≡ number → missing image what ≡ ino
+    → dump_answer what image is ≡ number_answer number ino
+answer_is what image m is number ino same out lacking = ap (λ r. dump_answer what image r) (sym same) ∙ ap (λ n. number_answer n (missing image what)) out ∙ ap (λ i. number_answer number i) lacking
+
 pub returns-in-Ok-dump-clause-exact : goal.returns-in-Ok-dump-clause-exact
 returns-in-Ok-dump-clause-exact g c = λ image told.
-    inl (sym (inside _ _ _ c.dump.result c.dump.ensures.range (λ n is. cc)) ∙ ap (λ r. dump_answer c.args.what r) (c.in-Ok.ensures.exact image told))
+    let reads = c.mount.ensures.reads in
+    let lacks = c.dump.ensures.missing image (reads.told ∙ told) (c.in-Ok.ensures.of_image image told) in
+    inl (sym (answer_is c.args.what image c.in-Ok.m _ None None (c.in-Ok.ensures.exact image told) (inside _ _ _ c.dump.result c.dump.ensures.range (λ n is. cc)) (found _ c.dump.result lacks (λ e is. cc))))
 
 pub returns-in-Err-SinkFault-clause-sink_fault : goal.returns-in-Err-SinkFault-clause-sink_fault
 returns-in-Err-SinkFault-clause-sink_fault g c = λ image told fault.
-    ap (λ r. dump_answer c.args.what r) (sym (c.in-Ok.ensures.exact image told)) ∙ inside _ _ _ c.dump.result c.dump.ensures.range (λ n is. cc)
+    let reads = c.mount.ensures.reads in
+    let lacks = c.dump.ensures.missing image (reads.told ∙ told) (c.in-Ok.ensures.of_image image told) in
+    answer_is c.args.what image c.in-Ok.m _ None None (c.in-Ok.ensures.exact image told) (inside _ _ _ c.dump.result c.dump.ensures.range (λ n is. cc)) (lacks.sink (cc))
 
--- a number that lies outside was refused, and nothing was put
+-- a number that lies outside was refused, and an inode that is missing, and nothing was put
+pub returns-in-Err-OutOfRange-clause-exact : goal.returns-in-Err-OutOfRange-clause-exact
+returns-in-Err-OutOfRange-clause-exact g c = λ image told.
+    inl (sym (answer_is c.args.what image c.in-Ok.m _ (Some c.in-Err-OutOfRange.number) _ (c.in-Ok.ensures.exact image told) ((c.dump.ensures.range.exact c.in-Err-OutOfRange.number).0 (cc)) refl))
+
+pub returns-in-Err-OutOfRange-clause-lines : goal.returns-in-Err-OutOfRange-clause-lines
+returns-in-Err-OutOfRange-clause-lines g c = λ had told image told'.
+    ([], refl, c.dump.ensures.range.nothing c.in-Err-OutOfRange.number (cc) ∙ told ∙ ap (λ (l : List ℕ). Some l) (sym (append-nil had)))
+
 pub returns-in-Ok-clause-exact : goal.returns-in-Ok-clause-exact
 returns-in-Ok-clause-exact g c = λ image told.
-    inl (ap range_answer (sym ((c.dump.ensures.range.exact c.in-Err-OutOfRange.number).0 (cc))) ∙ ap (λ r. dump_answer c.args.what r) (c.in-Ok.ensures.exact image told))
+    let reads = c.mount.ensures.reads in
+    let lacks = c.dump.ensures.missing image (reads.told ∙ told) (c.in-Ok.ensures.of_image image told) in
+    inl (sym (answer_is c.args.what image c.in-Ok.m _ None (Some c.in-Err-NoSuchNode.ino) (c.in-Ok.ensures.exact image told) (inside _ _ _ c.dump.result c.dump.ensures.range (λ n is. cc)) (lacks.named c.in-Err-NoSuchNode.ino (cc))))
 
 pub returns-in-Ok-clause-lines : goal.returns-in-Ok-clause-lines
 returns-in-Ok-clause-lines g c = λ had told image told'.
-    ([], refl, c.dump.ensures.range.nothing c.in-Err-OutOfRange.number (cc) ∙ told ∙ ap (λ (l : List ℕ). Some l) (sym (append-nil had)))
+    ([], refl, c.dump.ensures.range.absent c.in-Err-NoSuchNode.ino (cc) ∙ told ∙ ap (λ (l : List ℕ). Some l) (sym (append-nil had)))
 
 -- an image that can't be mounted has no lines
 unmounted : (lines : List ℕ) (refusal : MountRefusal) → IsFront lines (mount_answer refusal) []
