@@ -17,6 +17,8 @@ pub use top::run;
 #[cfg(test)]
 mod dump_tests;
 #[cfg(test)]
+mod file_tests;
+#[cfg(test)]
 mod table_tests;
 #[cfg(test)]
 mod tests;
