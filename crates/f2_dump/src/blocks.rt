@@ -23,7 +23,7 @@ use std::alloc::Global;
 const BELOW_NIDS: u64 = 2 * 1018 + 2 * 1018 * 1018 + 1018 * 1018 * 1018;
 
 // How many blocks of a file are dumped. The size may be so large that it can't be rounded up first.
-fn file_blocks(b: &Block) -> u64
+pub(crate) fn file_blocks(b: &Block) -> u64
     ensures blocks { result ≡ blocks_of_file b.now }
     ensures inside { (k : ℕ) → k < result → 4096 * k < size_of b.now }
 {

@@ -46,7 +46,7 @@ fn read_file<D: Disk>(
 
 // The bytes of a file that stand in its inode.
 #[tactic(auto, using(crate::proofs::FileParts::inline_fits))]
-fn inline_bytes(b: &Block) -> &[u8]
+pub(crate) fn inline_bytes(b: &Block) -> &[u8]
     ensures bytes { result.now ≡ take (size_of b.now) (inline_area b.now) }
     ensures short { length result.now ≤ PIECE }
 {

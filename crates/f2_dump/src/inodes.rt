@@ -83,7 +83,7 @@ fn push_slots(text: &mut Vec<u8>, b: &Block) -> Result<(), AllocError>
 }
 
 // The lines of an inode.
-fn inode_text(alloc: Global, b: &Block) -> Result<Vec<u8>, AllocError>
+pub(crate) fn inode_text(alloc: Global, b: &Block) -> Result<Vec<u8>, AllocError>
     ensures lines { IfOk result (λ text. text.items ≡ inode_lines b.now) }
     ensures size { IfOk result (λ text. length text.items ≤ PIECE) }
 {

@@ -17,7 +17,7 @@ use f2_view::Mount;
 use std::alloc::{AllocError, Global};
 
 // Appends the line of the summary of block `k` of a segment.
-fn push_summary_line(
+pub(crate) fn push_summary_line(
     text: &mut Vec<u8>,
     segment: u32,
     k: u32,
