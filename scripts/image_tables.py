@@ -67,6 +67,27 @@ class Table:
             for number, entry in enumerate(entries, start=block * self.room):
                 yield number, journal.get(number, entry)
 
+    def most_records(self):
+        return (AREA - 2) // self.record.size
+
+    def put_records(self, records):
+        area = struct.pack("<H", len(records)) + b"".join(self.record.pack(*record) for record in records)
+        block, offset = self.journal
+        data = self.pack.read(block)
+        self.pack.write(block, data[:offset] + area + data[offset + len(area) :])
+
+    def put(self, number, *entry):
+        """Gives a number that has no record another entry: half of the numbers by a record, while there is room."""
+        records = self.records()
+        if number % 2 == 1 and len(records) < self.most_records():
+            self.put_records([*records, (number, *entry)])
+            return
+        block, place = divmod(number, self.room)
+        address = self.place(block, self.bit(block))
+        data = bytearray(image_block(self.pack.image, address))
+        self.entry.pack_into(data, place * self.entry.size, *entry)
+        put_block(self.pack.image, address, data)
+
     def scatter(self):
         """Gives each number an entry of its own, the blocks places in no simple order, and the journal all its records."""
         head = bytearray(self.pack.head)
@@ -82,12 +103,9 @@ class Table:
         self.pack.head = self.pack.read(0)
 
         # a record has the entry that the table has for the next number
-        count = (AREA - 2) // self.record.size
+        count = self.most_records()
         numbers = range(FIRST_NID, self.numbers, self.numbers // count)[:count]
-        area = struct.pack("<H", count) + b"".join(self.record.pack(number, *self.sample(number + 1)) for number in numbers)
-        block, offset = self.journal
-        data = self.pack.read(block)
-        self.pack.write(block, data[:offset] + area + data[offset + len(area) :])
+        self.put_records([(number, *self.sample(number + 1)) for number in numbers])
 
 
 class NodeTable(Table):

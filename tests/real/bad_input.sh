@@ -4,7 +4,7 @@ source "$(dirname "$0")/expect.bash"
 
 image=$tmp/image
 usage='usage: f2tools IMAGE TOOL OPTIONS'
-dumps=('dump --cp' 'dump -n 0~-1' 'dump -s 0~-1' 'dump --block 0')
+dumps=('dump --cp' 'dump -n 0~-1' 'dump -s 0~-1' 'dump --block 0' 'dump -a 0~-1' 'dump -i 3' 'dump --cat 3')
 
 lay_out() {
     python3 "$top/scripts/superblock_image.py" "$@"
@@ -73,7 +73,7 @@ check_contents() {
     expect_refusal 'no checkpoint pack' 'refused 5 NoPack' "${dumps[@]}"
     # without a pack, no number is looked at
     expect_refusal 'neither a checkpoint pack nor the number' 'refused 5 NoPack' \
-        'dump -n 7~5' 'dump -s 16384~16384' 'dump --block 16384'
+        'dump -n 7~5' 'dump -s 16384~16384' 'dump --block 16384' 'dump -a 7~5' 'dump -i 0' 'dump --cat 4294967295'
     if lay_out "$image" 268435457 >/dev/null 2>&1; then
         truncate -s 8192 "$image"
         expect_refusal 'more than 1 TiB' 'refused 3 TooLarge 268435457'
@@ -216,7 +216,7 @@ check_numbers() {
         '0~18446744073709551616' '18446744073709551616~-1' '3~-18446744073709551615' $'3~5\xff' '3~٥')
     lay_out "$image" 16384 --zero-first
     cp --sparse=always "$image" "$tmp/before"
-    for option in -n -s --block; do
+    for option in -n -s -a --block -i --cat; do
         for word in "${words[@]}"; do
             expect "$option: '$word'" 16 "$usage" "$program" "$image" dump "$option" "$word"
         done
@@ -226,9 +226,18 @@ check_numbers() {
         expect "$option: the words turned" 16 "$usage" "$program" "$image" dump 3 "$option"
         expect "$option: the option of another tool" 16 "$usage" "$program" "$image" fsck "$option" 3
     done
-    expect '-n: a number' 16 "$usage" "$program" "$image" dump -n 3
-    expect '-s: a number' 16 "$usage" "$program" "$image" dump -s 3
-    expect '--block: a range' 16 "$usage" "$program" "$image" dump --block '3~5'
+    for option in -n -s -a; do
+        expect "$option: a number" 16 "$usage" "$program" "$image" dump "$option" 3
+    done
+    for option in --block -i --cat; do
+        expect "$option: a range" 16 "$usage" "$program" "$image" dump "$option" '3~5'
+    done
+    # these numbers have 32 bits
+    for option in -i --cat; do
+        for word in 4294967296 0x100000003 18446744073709551615; do
+            expect "$option: $word" 16 "$usage" "$program" "$image" dump "$option" "$word"
+        done
+    done
     expect_same 'numbers' "$image" "$tmp/before"
 }
 

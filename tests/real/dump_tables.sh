@@ -27,25 +27,6 @@ read_tables() {
     done <"$tmp/figures"
 }
 
-# expect_lines NAME LIMIT TABLE OPTION RANGE: `dump` has to print the lines of the table whose numbers are in the range;
-# they are all below the limit.
-expect_lines() {
-    local name=$1 limit=$2 table=$3 first=${5%~*} last=${5#*~} text
-    text=$(awk -v first=$((first)) -v last=$((last < 0 ? limit : last)) '$1 >= first && $1 <= last' "$table")
-    expect "$name: $4 $5" 0 "$text" "$program" "$image" dump "$4" "$5"
-    # the texts are long: say which lines differ
-    diff "$tmp/wanted" "$tmp/output" | head -n 8 || true
-}
-
-# check_ranges NAME LIMIT TABLE OPTION RANGE..: these ranges, and those of all numbers and of the greatest one.
-check_ranges() {
-    local name=$1 limit=$2 table=$3 option=$4 greatest=$(($2 - 1)) range
-    shift 4
-    for range in "$@" '0~-1' "0~$greatest" "$greatest~$greatest" "$greatest~-1"; do
-        expect_lines "$name" "$limit" "$table" "$option" "$range"
-    done
-}
-
 # check_blocks NAME: the superblock copies, a checkpoint, the first block of each later area, and the last block.
 check_blocks() {
     local name=$1 blocks=${figure[blocks]} sit nat ssa main address text
@@ -57,45 +38,20 @@ check_blocks() {
     done
 }
 
-# expect_outside NAME OPTION WORD NUMBER: this number of the word is refused.
-expect_outside() {
-    expect "$1: $2 $3" 20 "refused 14 OutOfRange $4" "$program" "$image" dump "$2" "$3"
-}
-
-# check_ends NAME: what lies outside of the ranges.
-check_ends() {
-    local name=$1 option limit greatest range
-    for option in -n -s; do
-        [[ $option == -n ]] && limit=${figure[nodes]} || limit=${figure[segments]}
-        greatest=$((limit - 1))
-        for range in "$limit~-1" "$limit~0" "$limit~$((limit + 1))" "0~$limit" "$greatest~$limit"; do
-            expect_outside "$name" "$option" "$range" "$limit"
-        done
-        expect_outside "$name" "$option" "$greatest~$((greatest - 1))" "$greatest"
-        expect_outside "$name" "$option" '1~0' 1
-        # numbers that 32 bits would cut
-        expect_outside "$name" "$option" '4294967296~-1' 4294967296
-        expect_outside "$name" "$option" '1~4294967298' 4294967298
-        expect_outside "$name" "$option" '1~18446744073709551615' 18446744073709551615
-    done
-    expect_outside "$name" --block "${figure[blocks]}" "${figure[blocks]}"
-    expect_outside "$name" --block 4294967296 4294967296
-}
-
 # check_dumps NAME: everything that the script can say, on a copy of $made.
 check_dumps() {
     local name=$1
-    cp --sparse=always "$made" "$image"
-    # a write sets the time of its moment
-    touch -d @0 "$image"
+    take_image
     read_tables
     # a block of the tables has 455 nodes or 55 segments
     check_ranges "$name" "${figure[nodes]}" "$tmp/nodes" -n '0~2' '3~3' '3~-1' '454~455' '0x1C6~1400'
     check_ranges "$name" "${figure[segments]}" "$tmp/segments" -s '0~0' '3~-1' '54~55' '50~0x6f'
     check_blocks "$name"
-    check_ends "$name"
-    [[ $(stat -c %Y "$image") == 0 ]] || fail "$name: the image was written"
-    cmp -s -n 256M "$image" "$made" || fail "$name: the image has other bytes"
+    check_ends "$name" -n "${figure[nodes]}"
+    check_ends "$name" -s "${figure[segments]}"
+    expect_outside "$name" --block "${figure[blocks]}" "${figure[blocks]}"
+    expect_outside "$name" --block 4294967296 4294967296
+    expect_unwritten "$name"
 }
 
 # read_real_tables NAME: leaves what dump.f2fs reads in $tmp/real/nodes, as `nid ino address`, and $tmp/real/segments,
@@ -122,12 +78,6 @@ read_real_tables() {
     ' "$tmp/real/dump_sit" >"$tmp/real/segments"
 }
 
-# expect_real NAME OPTION FIELDS TABLE: these fields of what `dump` prints are the table that dump.f2fs read.
-expect_real() {
-    "$program" "$image" dump "$2" '0~-1' </dev/null | cut -d ' ' -f "$3" >"$tmp/output" || true
-    diff "$4" "$tmp/output" >"$tmp/difference" || fail "$1: $2: dump.f2fs reads other entries: $(head -n 8 "$tmp/difference")"
-}
-
 # check NAME: everything, on $made.
 check() {
     check_dumps "$1"
@@ -142,13 +92,7 @@ check_scattered() {
     check "$1"
     ((figure[nodes_moved] && figure[segments_moved] && figure[nodes_records] == 38 && figure[segments_records] == 6)) ||
         fail "$1: too few moved blocks or records"
-    # the reader of the text goes away
     expect "$1: a cut text" 9 '' output_cut "$program" "$image" dump -n '0~-1'
-}
-
-output_cut() {
-    "$@" | head -n 1 >/dev/null
-    return "${PIPESTATUS[0]}"
 }
 
 # expect_count NAME FIELD NUMBER: this field of the checkpoint has this number.
@@ -163,15 +107,6 @@ check_loaded() {
     check "$1"
     expect_count "$1" valid_node_count "$(wc -l <"$tmp/nodes")"
     expect_count "$1" valid_block_count "$(awk '{ sum += $3 } END { print sum }' "$tmp/segments")"
-}
-
-# run_real NAME TOOL WORD..: runs a real tool on $made. False where it ended badly.
-run_real() {
-    local name=$1
-    shift
-    "$@" "$made" </dev/null >"$tmp/log" 2>&1 && return
-    fail "$name: $1 ended badly: $(tail -n 3 "$tmp/log")"
-    return 1
 }
 
 # put_noise FIRST COUNT: writes noise over blocks of $made.

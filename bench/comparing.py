@@ -1,0 +1,89 @@
+"""What the benchmarks of dumps share: an image of 1 GiB with 20,000 files that the real mkfs.f2fs and sload.f2fs made, and the
+comparison of two programs.
+"""
+import os
+import shutil
+import subprocess
+import sys
+import tempfile
+from contextlib import contextmanager
+
+from measuring import PROGRAM, TOP, count_calls, make_image, mean_start, medians, need_program, print_row, start
+
+sys.path.insert(0, f"{TOP}/scripts")
+from file_tree import lay_out
+
+os.environ["PATH"] += ":/usr/sbin:/sbin"
+NEEDED = ("mkfs.f2fs", "sload.f2fs", "dump.f2fs")
+BLOCKS = 262_144
+FILES = 20_000
+SAMPLES = 11
+STARTS = 3  # of each program, in each sample
+
+
+def make_full_image(image, tree, add):
+    make_image(image, BLOCKS)
+    lay_out(tree, FILES)
+    add(tree)
+    subprocess.run(["sload.f2fs", "-f", tree, image], check=True, stdin=subprocess.DEVNULL, stdout=subprocess.DEVNULL)
+    shutil.rmtree(tree)
+
+
+@contextmanager
+def full_image(add=lambda tree: None):
+    """The image, with the files that `add(tree)` adds, in a folder that becomes the current one."""
+    need_program()
+    if any(shutil.which(tool) is None for tool in NEEDED):
+        print(f"skipped: {', '.join(NEEDED)} are not all installed")
+        sys.exit()
+    with tempfile.TemporaryDirectory(prefix="f2tools.") as folder:
+        folder = os.path.realpath(folder)
+        os.chdir(folder)
+        image = f"{folder}/image"
+        try:
+            make_full_image(image, f"{folder}/tree", add)
+        except (OSError, subprocess.CalledProcessError) as why:
+            sys.exit(f"no image in {folder} ({why}): set TMPDIR to a folder that takes one")
+        yield image
+
+
+def of_dump(option, image):
+    """The comparison of a dump of all numbers with the real one, which writes to a file in the current folder."""
+    ours = PROGRAM, image, "dump", option, "0~-1"
+    return f"dump {option} / dump.f2fs", ours, (shutil.which("dump.f2fs"), option, "0~-1", image), "below 0.5"
+
+
+def peak_memory(words):
+    """The peak memory of a start, in MiB. Python's own would be counted in that of what it starts itself."""
+    start([shutil.which("time"), "-f", "%M", "-o", "log", *words], 0)
+    with open("log") as file:
+        return int(file.read()) / 1024
+
+
+def compare(image, comparisons):
+    """Prints what is measured of comparisons: a name, the words of f2tools and of the other program, and the ratio wanted."""
+    print(f"{os.cpu_count()} cores; medians of {SAMPLES} samples of {STARTS} starts each")
+    print()
+    print_row("time of a start", "f2tools", "the other", "ratio", "wanted")
+    cases = list(dict.fromkeys((words,) for _, *sides, _ in comparisons for words in sides))
+    times = medians(cases, lambda words: mean_start(words, STARTS), SAMPLES)
+    for name, *sides, wanted in comparisons:
+        ours, theirs = (times[words,] for words in sides)
+        print_row(name, f"{ours:.3f} ms", f"{theirs:.3f} ms", f"{ours / theirs:.4f}", wanted)
+
+    print()
+    if shutil.which("time") is None:
+        print("peak memory is not measured: time is not installed")
+    else:
+        print_row("peak memory", "f2tools", "the other", "", "wanted")
+        for name, *sides, _ in comparisons:
+            print_row(name, *(f"{peak_memory(words):.1f} MiB" for words in sides), "", "below 16 MiB")
+
+    print()
+    if shutil.which("strace") is None:
+        print("blocks read and written are not counted: strace is not installed")
+        return
+    print_row("calls of f2tools", "blocks read", "blocks written", "syncs")
+    for words in dict.fromkeys(ours for _, ours, *_ in comparisons):
+        counts = count_calls(words, 0, image, "log")
+        print_row(" ".join(words[2:]), *([f"{count:g}" for count in counts] if counts else ["strace failed"]))
