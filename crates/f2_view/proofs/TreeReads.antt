@@ -54,13 +54,19 @@ module _ (image : Image) (ino : ℕ) where
       cond-false (offset == 0) _ _ (ne_eqb offset 0 other)
       ∙ ap (option_and_then (λ (spot : ℕ × ℕ). option_and_then (λ above. read_node image (nid_in spot above)) (node_within n image ino spot.0))) (sym none)
 
-  pub one_step : (n m offset : ℕ) (spot : ℕ × ℕ) → n ≡ suc m → offset ≢ 0 → Some spot ≡ parent_of offset
-      → node_within n image ino offset ≡ option_and_then (λ above. read_node image (nid_in spot above)) (node_within m image ino spot.0)
-  unfolding node_within
-  one_step n m offset spot is other parent =
-      ap (λ k. node_within k image ino offset) is
-      ∙ cond-false (offset == 0) _ _ (ne_eqb offset 0 other)
-      ∙ ap (option_and_then (λ (s : ℕ × ℕ). option_and_then (λ above. read_node image (nid_in s above)) (node_within m image ino s.0))) (sym parent)
+  module _ (n m offset : ℕ) (spot : ℕ × ℕ) (is : n ≡ suc m) (other : offset ≢ 0) (parent : Some spot ≡ parent_of offset) where
+    one_step : node_within n image ino offset ≡ option_and_then (λ above. read_node image (nid_in spot above)) (node_within m image ino spot.0)
+    unfolding node_within
+    one_step =
+        ap (λ k. node_within k image ino offset) is
+        ∙ cond-false (offset == 0) _ _ (ne_eqb offset 0 other)
+        ∙ ap (option_and_then (λ (s : ℕ × ℕ). option_and_then (λ above. read_node image (nid_in s above)) (node_within m image ino s.0))) (sym parent)
+
+    pub below_none : node_within m image ino spot.0 ≡ None → node_within n image ino offset ≡ None
+    below_none none = one_step ∙ ap (option_and_then (λ above. read_node image (nid_in spot above))) none
+
+    pub below_some : (above : Block) → node_within m image ino spot.0 ≡ Some above → node_within n image ino offset ≡ read_node image (nid_in spot above)
+    below_some above there = one_step ∙ ap (option_and_then (λ b. read_node image (nid_in spot b))) there
 
   module _ (k : ℕ) where
     pub no_inode : read_node image ino ≡ None → 0 ≡ tree_slot image ino k
