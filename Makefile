@@ -21,6 +21,7 @@ bench: build
 	bench/super_copies.py
 	bench/dump_cp.py
 	bench/dump_tables.py
+	bench/dump_files.py
 
 install: build
 	install -D -m 755 $(PROGRAM) $(DESTDIR)$(PREFIX)/bin/f2tools
