@@ -7,7 +7,7 @@ import argparse
 import os
 import sys
 
-PIECE = 1 << 20
+PIECE = 1 << 16  # bytes that a pipe holds
 
 
 def next_data(file, place):
