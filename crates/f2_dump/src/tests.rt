@@ -3,9 +3,10 @@ use crate::blocks::file_blocks;
 use crate::contents::inline_bytes;
 use crate::entries::{push_nat_line, push_sit_line};
 use crate::hex::push_rows;
-use crate::inodes::{inode_text, is_inline};
+use crate::inodes::inode_text;
 use crate::summaries::push_summary_line;
 use f2_disk::Block;
+use f2_node::is_inline;
 use f2_sum::{NatEntry, SitEntry, Summary};
 use std::test::Fail;
 
