@@ -5,7 +5,7 @@ ghost use Rattle.f2_disk.specs.Fakes.{memory_of};
 use crate::Answer;
 use crate::dump_tests::{answer, image};
 use f2_disk::{Block, Disk, MemoryDisk, MemorySink};
-use f2_view::mount;
+use f2_view::{Mount, mount};
 use std::alloc::Global;
 use std::test::Fail;
 
@@ -110,41 +110,51 @@ fn files(alloc: Global) -> Result<MemoryDisk, Fail>
     Ok(disk)
 }
 
-// The blocks of file 4, and their addresses.
-const SLOTS: [(u64, u32); 17] = [
-    (0, 6000),
-    (1, 0),
-    (922, 6001),
-    (923, 6002),
-    (1940, 6003),
-    (1941, 6004),
-    (2958, 6005),
-    (2959, 6006),
-    (2960, 0),
-    (3977, 8),
-    (1_039_283, 6007),
-    (1_040_300, 6008),
-    (2_074_589, 6007),
-    (2_075_606, 6008),
-    (2_075_607, 6009),
-    (1_057_053_438, 0),
-    (1_057_053_439, 0),
+// Blocks of files, and their addresses: of one in each range, of a node that is no inode, of a file that stands in its
+// inode, and of one outside the main area.
+const SLOTS: [(u32, u64, u32); 20] = [
+    (4, 0, 6000),
+    (4, 1, 0),
+    (4, 922, 6001),
+    (4, 923, 6002),
+    (4, 1940, 6003),
+    (4, 1941, 6004),
+    (4, 2958, 6005),
+    (4, 2959, 6006),
+    (4, 2960, 0),
+    (4, 3977, 8),
+    (4, 1_039_283, 6007),
+    (4, 1_040_300, 6008),
+    (4, 2_074_589, 6007),
+    (4, 2_075_606, 6008),
+    (4, 2_075_607, 6009),
+    (4, 1_057_053_438, 0),
+    (4, 1_057_053_439, 0),
+    (5, 0, 0),
+    (20, 0, 0),
+    (22, 0, 0),
 ];
+
+// The address of a block of a file, where the image fits the disk.
+fn slot(disk: &mut MemoryDisk, m: &mut Mount, ino: u32, k: u64) -> Option<u32>
+    requires { (memory_of disk.old).blocks ≡ 16384 }
+    ensures { (memory_of disk.new).blocks ≡ 16384 }
+{
+    if m.layout().blocks > 16384 {
+        return None;
+    }
+    m.slot(disk, ino, k).ok()
+}
 
 #[test]
 fn slots_are_read_through_the_nodes_above(rt: HostRuntime) -> Result<(), Fail> {
     let alloc = rt.alloc();
     let mut disk = files(alloc)?;
     let mut m = mount(alloc, &mut disk)?;
-    for (k, address) in SLOTS {
-        assert_eq!(rt; m.slot(&mut disk, 4, k), Ok(address), "block {k}");
+    for (ino, k, address) in SLOTS {
+        let read = slot(&mut disk, &mut m, ino, k);
+        assert_eq!(rt; read, Some(address), "block {k} of {ino}");
     }
-    assert_eq!(rt; m.slot(&mut disk, 5, 0), Ok(0));
-    assert_eq!(rt; m.slot(&mut disk, 20, 0), Ok(0));
-    assert_eq!(rt; m.slot(&mut disk, 22, 0), Ok(0));
-    let second = m.layout().main + 1;
-    let s = m.summary(&mut disk, second);
-    assert_eq!(rt; s.map(|s| (s.nid, s.version, s.ofs)), Ok((4, 1, 2)));
     Ok(())
 }
 
@@ -197,5 +207,29 @@ fn a_segment_that_no_log_fills_has_a_summary_block(rt: HostRuntime) -> Result<()
         out.bytes()
             .starts_with(b"10 0 5 6 263\n10 1 0 0 0\n".as_slice())
     );
+    Ok(())
+}
+
+// The summary of the block at an address, where the image fits the disk and the address lies in main.
+fn summary(disk: &mut MemoryDisk, m: &mut Mount, addr: u32) -> Option<(u32, u8, u16)>
+    requires { (memory_of disk.old).blocks ≡ 16384 }
+{
+    let l = m.layout();
+    if l.blocks > 16384 || addr < l.main {
+        return None;
+    }
+    if u64::from(addr) >= u64::from(l.main) + 512 * u64::from(l.segments) {
+        return None;
+    }
+    let s = m.summary(disk, addr).ok()?;
+    Some((s.nid, s.version, s.ofs))
+}
+
+#[test]
+fn a_block_has_its_summary(rt: HostRuntime) -> Result<(), Fail> {
+    let alloc = rt.alloc();
+    let mut disk = files(alloc)?;
+    let mut m = mount(alloc, &mut disk)?;
+    assert_eq!(rt; summary(&mut disk, &mut m, 4097), Some((4, 1, 2)));
     Ok(())
 }
