@@ -16,7 +16,7 @@ from comparing import compare, full_image, of_dump
 from measuring import BLOCK, PROGRAM, TOP
 
 sys.path.insert(0, f"{TOP}/scripts")
-from checkpoint_packs import packs_of
+from checkpoint_packs import counting_pack
 from image_files import Files
 
 LARGE = 51_200  # blocks
@@ -30,7 +30,7 @@ def add_large(tree):
 
 def of_cat(image):
     with open(image, "rb") as file:
-        files = Files(file, packs_of(file)[1])
+        files = Files(file, counting_pack(file))
         ino = next(ino for ino, path in files.paths() if path == b"large")
     ours = PROGRAM, image, "dump", "--cat", str(ino)
     blocks = f"if={image}", "bs=4k", f"skip={files.main.start}", f"count={LARGE}", "status=none"

@@ -11,7 +11,7 @@ import struct
 import sys
 
 sys.dont_write_bytecode = True
-from checkpoint_packs import packs_of
+from checkpoint_packs import counting_pack
 from image_files import ADDRESSES, FOOTER, INLINE_DATA, INLINE_DENTRY, INLINE_XATTR, REGULAR, SYMLINK, room_of
 from image_tables import FIRST_NID, NodeTable, SegmentTable, put_block
 from superblock_image import BLOCK, SEGMENT
@@ -137,9 +137,7 @@ def main():
     words.add_argument("folder", metavar="FOLDER")
     given = words.parse_args()
     with open(given.image, "r+b") as image:
-        pack = packs_of(image)[1]
-        if pack is None:
-            sys.exit("neither checkpoint pack is valid")
+        pack = counting_pack(image)
         Adding(image, pack, given.folder).add()
 
 

@@ -138,6 +138,11 @@ def packs_of(image):
     return packs, max(valid, key=lambda pack: version(pack.head), default=None)
 
 
+def counting_pack(image):
+    """The pack that counts; without one the script ends."""
+    return packs_of(image)[1] or sys.exit("neither checkpoint pack is valid")
+
+
 def main():
     words = argparse.ArgumentParser(description=__doc__)
     words.add_argument("image", metavar="IMAGE")

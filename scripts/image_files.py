@@ -10,7 +10,7 @@ import struct
 import sys
 
 sys.dont_write_bytecode = True
-from checkpoint_packs import number_at, packs_of
+from checkpoint_packs import counting_pack, number_at
 from image_tables import FIRST_NID, NodeTable, image_block, put_lines
 
 FIELDS = [  # of struct f2fs_inode: name, offset and width
@@ -131,9 +131,7 @@ def main():
     words.add_argument("folder", metavar="FOLDER")
     given = words.parse_args()
     with open(given.image, "rb") as image:
-        pack = packs_of(image)[1]
-        if pack is None:
-            sys.exit("neither checkpoint pack is valid")
+        pack = counting_pack(image)
         Files(image, pack).leave(given.folder)
 
 

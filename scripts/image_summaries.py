@@ -10,7 +10,7 @@ import struct
 import sys
 
 sys.dont_write_bytecode = True
-from checkpoint_packs import first_copy, number_at, packs_of, sealed
+from checkpoint_packs import counting_pack, first_copy, number_at, sealed
 from image_files import FOOTER
 from image_tables import COMPACT, FASTBOOT, UNMOUNT, image_block, put_block
 from superblock_image import SEGMENT
@@ -124,9 +124,7 @@ def main():
     given = words.parse_args()
     changes = given.scatter or given.lengthen or given.drop_node_summaries
     with open(given.image, "r+b" if changes else "rb") as image:
-        pack = packs_of(image)[1]
-        if pack is None:
-            sys.exit("neither checkpoint pack is valid")
+        pack = counting_pack(image)
         summaries = Summaries(image, pack)
         if given.scatter:
             summaries.scatter()

@@ -11,7 +11,7 @@ import struct
 import sys
 
 sys.dont_write_bytecode = True
-from checkpoint_packs import first_copy, number_at, packs_of, sealed
+from checkpoint_packs import counting_pack, first_copy, number_at, sealed
 from superblock_image import BLOCK, SEGMENT
 
 FIRST_NID = 3
@@ -171,9 +171,7 @@ def main():
     what.add_argument("--scatter", action="store_true", help="change both tables to ones with moved blocks and full journals")
     given = words.parse_args()
     with open(given.image, "r+b" if given.scatter else "rb") as image:
-        pack = packs_of(image)[1]
-        if pack is None:
-            sys.exit("neither checkpoint pack is valid")
+        pack = counting_pack(image)
         nodes, segments = NodeTable(pack), SegmentTable(pack)
         if given.scatter:
             nodes.scatter()

@@ -1,11 +1,8 @@
 #!/usr/bin/env bash
 # Compares what `f2tools IMAGE dump --cp` prints of images that the real mkfs.f2fs and sload.f2fs made with the numbers
 # in their bytes, also where checkpoint packs are destroyed.
-PATH=$PATH:/usr/sbin:/sbin
-if ! command -v mkfs.f2fs >/dev/null; then
-    echo "skipped: mkfs.f2fs is not installed"
-    exit 0
-fi
+source "$(dirname "$0")/tools.bash"
+need mkfs
 source "$(dirname "$0")/expect.bash"
 
 FIELDS=65

@@ -1,13 +1,8 @@
 #!/usr/bin/env bash
 # Compares what `f2tools IMAGE dump -i`, `dump --cat` and `dump -a` print of images that the real mkfs.f2fs and sload.f2fs
 # made with the files that were loaded, and with what small scripts and the real dump.f2fs read from their bytes.
-PATH=$PATH:/usr/sbin:/sbin
-for tool in mkfs sload dump; do
-    if ! command -v "$tool.f2fs" >/dev/null; then
-        echo "skipped: $tool.f2fs is not installed"
-        exit 0
-    fi
-done
+source "$(dirname "$0")/tools.bash"
+need mkfs sload dump
 source "$(dirname "$0")/expect.bash"
 
 image=$tmp/image

@@ -1,13 +1,8 @@
 #!/usr/bin/env bash
 # Compares what `f2tools IMAGE dump -n`, `dump -s` and `dump --block` print of images that the real mkfs.f2fs,
 # sload.f2fs and resize.f2fs made with what a small script and the real dump.f2fs read from their bytes.
-PATH=$PATH:/usr/sbin:/sbin
-for tool in mkfs sload resize dump; do
-    if ! command -v "$tool.f2fs" >/dev/null; then
-        echo "skipped: $tool.f2fs is not installed"
-        exit 0
-    fi
-done
+source "$(dirname "$0")/tools.bash"
+need mkfs sload resize dump
 source "$(dirname "$0")/expect.bash"
 
 image=$tmp/image

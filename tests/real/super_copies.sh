@@ -1,11 +1,8 @@
 #!/usr/bin/env bash
 # Destroys superblock copies of images that the real mkfs.f2fs made, repairs them with `f2tools IMAGE fsck --super`,
 # and has the real fsck.f2fs accept the result.
-PATH=$PATH:/usr/sbin:/sbin
-if ! command -v mkfs.f2fs >/dev/null || ! command -v fsck.f2fs >/dev/null; then
-    echo "skipped: mkfs.f2fs and fsck.f2fs are not installed"
-    exit 0
-fi
+source "$(dirname "$0")/tools.bash"
+need mkfs fsck
 source "$(dirname "$0")/expect.bash"
 
 # A copy is 3 KiB long, and begins at this KiB of the file.
