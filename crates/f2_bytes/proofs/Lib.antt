@@ -1,6 +1,7 @@
 pub mod Below
 pub mod CopyFacts
 pub mod Entries
+pub mod Finds
 pub mod HalvedSteps
 pub mod Numbers
 pub mod Seals

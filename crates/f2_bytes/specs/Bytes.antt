@@ -1,5 +1,5 @@
 -- Numbers in lists of bytes, and images as lists of blocks.
-use Rattle.std.specs.Prelude.{◌≡◌, ℕ, ◌+◌, ◌*◌, ◌/◌, ◌%◌, ◌^◌, ◌<◌, Bool, ◌==◌, List, [], ◌++◌, length, get_or, take, drop, count_by, slice_index, slice_range}
+use Rattle.std.specs.Prelude.{◌≡◌, ℕ, ◌+◌, ◌-◌, ◌*◌, ◌/◌, ◌%◌, ◌^◌, ◌<◌, Bool, ◌==◌, List, [], ◌++◌, length, get_or, take, drop, count_by, slice_index, slice_range}
 use Rattle.std.specs.List.{range_with_len}
 use Rattle.byteorder.specs.Endian.{little_from, little_bytes}
 
@@ -51,3 +51,7 @@ numbers_below n = range_with_len 0 n
 -- how many numbers below n pass the test
 abbrev pub count_below : ℕ → (ℕ → Bool) → ℕ
 count_below n test = count_by test (numbers_below n)
+
+-- a quotient rounded up
+abbrev pub quotient_up : ℕ → ℕ → ℕ
+quotient_up n d = (n + d - 1) / d

@@ -84,6 +84,13 @@ is_compact b = has_bit (ckpt_flags b) 2
 abbrev pub is_fastboot : Block → Bool
 is_fastboot b = has_bit (ckpt_flags b) 5
 
+-- which of the version and the checksum a node that was written after the checkpoint carries
+abbrev pub has_crc_recovery : Block → Bool
+has_crc_recovery b = has_bit (ckpt_flags b) 6
+
+abbrev pub has_nocrc_recovery : Block → Bool
+has_nocrc_recovery b = has_bit (ckpt_flags b) 9
+
 abbrev pub has_large_nat_bitmap : Block → Bool
 has_large_nat_bitmap b = has_bit (ckpt_flags b) 10
 

@@ -1,11 +1,17 @@
 pub mod Bits
+pub mod Buckets
 pub mod Bytes
 pub mod Checkpoint
 pub mod Checksum
+pub mod Directory
 pub mod Fields
+pub mod Format
 pub mod Journal
+pub mod Names
 pub mod Node
 pub mod NodeAddressTable
+pub mod Object
+pub mod RollForward
 pub mod SegmentTable
 pub mod Summary
 pub mod Superblock

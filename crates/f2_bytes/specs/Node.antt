@@ -86,6 +86,9 @@ is_directory b = mode b / 4096 == 4
 abbrev pub is_symlink : Block → Bool
 is_symlink b = mode b / 4096 == 10
 
+abbrev pub is_device : Block → Bool
+is_device b = (mode b / 4096 == 2) || (mode b / 4096 == 6)
+
 -- the content, or the names of a directory, stand in the inode
 abbrev pub is_inline : Block → Bool
 is_inline b = ((is_regular b || is_symlink b) && has_inline_data b) || (is_directory b && has_inline_dentry b)

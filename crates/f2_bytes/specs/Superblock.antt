@@ -1,9 +1,9 @@
 -- The superblock: its rows, when a copy passes, which copy counts, and where it says that the areas lie.
-use Rattle.std.specs.Prelude.{◌≡◌, ℕ, ◌+◌, ◌-◌, ◌*◌, ◌/◌, ◌%◌, ◌^◌, ◌≤◌, ◌<◌, Bool, not, ◌||◌, ◌&&◌, ◌==◌, nat_le, nat_lt, List, [], ◌∷◌, length, drop, take, find, Option, option_map, unwrap_or, is_some, bit_and}
+use Rattle.std.specs.Prelude.{◌≡◌, ℕ, ◌+◌, ◌-◌, ◌*◌, ◌/◌, ◌%◌, ◌^◌, ◌≤◌, ◌<◌, Bool, not, ◌||◌, ◌&&◌, ◌==◌, nat_le, nat_lt, List, [], ◌∷◌, length, map, drop, take, take_while, find, Option, option_map, unwrap_or, is_some, bit_and}
 use Rattle.std.specs.List.{list_all}
 use Rattle.f2_bytes.specs.declared.layout.Layout.{Layout}
 use Rattle.f2_bytes.specs.declared.fields.Field.{Field}
-use Rattle.f2_bytes.specs.Bytes.{Block, Image, block_at, has_bit, numbers_below}
+use Rattle.f2_bytes.specs.Bytes.{Block, Image, block_at, bytes_at, number_at, has_bit, numbers_below}
 use Rattle.f2_bytes.specs.Checksum.{crc, magic_number}
 use Rattle.f2_bytes.specs.Fields.{field, field_at}
 
@@ -103,6 +103,13 @@ feature c = copy_row c 31
 
 abbrev pub crc_field : List ℕ → ℕ
 crc_field c = copy_row c 32
+
+-- the uuid of the image, and its label: UTF-16 units up to the first zero
+abbrev pub uuid : List ℕ → List ℕ
+uuid c = bytes_at c 108 16
+
+unfoldable pub volume_name : List ℕ → List ℕ
+volume_name c = take_while (λ u. not (u == 0)) (map (λ i. number_at c (124 + 2 * i) 2) (numbers_below 512))
 
 -- the copy has the magic number, the sizes that this project reads, and the usual inode numbers
 unfoldable pub has_known_form : List ℕ → Bool
@@ -236,6 +243,10 @@ layout image = layout_of (super_bytes image)
 -- the address is that of a block of the main area
 abbrev pub is_main : Layout → ℕ → Bool
 is_main l address = nat_le l.main address && nat_lt address (l.main + 512 * l.segments)
+
+-- the address of the first block of a main segment
+abbrev pub segment_start : Layout → ℕ → ℕ
+segment_start l segment = l.main + 512 * segment
 
 -- the main segment of such an address, and the place of the block in it
 abbrev pub segment_of : Layout → ℕ → ℕ

@@ -1,10 +1,12 @@
--- The nodes of a file, and the addresses of its blocks: each inode with the nodes that its nid slots lead to.
-use Rattle.std.specs.Prelude.{ℕ, zero, suc, Bool, false, ◌==◌, if◌then◌else◌, Option, Some, None, option_and_then}
+-- The tree of an image: each inode with the nodes that its nid slots lead to, and what they say.
+use Rattle.std.specs.Prelude.{ℕ, zero, suc, ◌-◌, ◌^◌, Bool, false, ◌&&◌, ◌==◌, if◌then◌else◌, List, [], Option, Some, None, option_and_then, option_map}
 use Rattle.std.specs.Option.{option_map_or}
 use Rattle.f2_bytes.specs.Bytes.{Block, Image, block_at}
 use Rattle.f2_bytes.specs.Superblock.{layout, is_main}
-use Rattle.f2_bytes.specs.Node.{child_nid, parent_of, slot_of}
+use Rattle.f2_bytes.specs.Node.{child_nid, parent_of, slot_of, xattr_nid, is_directory}
+use Rattle.f2_bytes.specs.Directory.{Item, directory_items}
 use Rattle.f2_bytes.specs.NodeAddressTable.{nat}
+use Rattle.f2_bytes.specs.Object.{Piece, hole, reserved, stored, Object, FileTree, object_of, gives_name}
 
 -- the block at an address, where that lies in main
 abbrev pub main_block : Image → ℕ → Option Block
@@ -33,6 +35,29 @@ tree_node image ino offset = node_within 3 image ino offset
 unfoldable pub tree_slot : Image → ℕ → ℕ → ℕ
 tree_slot image ino k = slot_of (tree_node image ino) k
 
+-- what stands for a block at this address
+abbrev pub piece_at : Image → ℕ → Piece
+piece_at image address =
+    if address == 2 ^ 32 - 1 then reserved
+    else option_map_or stored (main_block image address) hole
+
+-- the items of a directory
+unfoldable pub tree_items : Image → ℕ → List Item
+tree_items image ino = option_map_or (λ inode. directory_items inode (λ k. main_block image (tree_slot image ino k))) (read_node image ino) []
+
+-- whether a directory gives this name to the file of this number
+abbrev pub tree_names : Image → ℕ → Block → List ℕ → ℕ → Bool
+tree_names image ino inode name target = is_directory inode && gives_name (tree_items image ino) name target
+
+-- the object of an inode
+abbrev pub tree_object : Image → ℕ → Block → Object
+tree_object image ino inode =
+    object_of inode (λ k. piece_at image (tree_slot image ino k)) (read_node image (xattr_nid inode)) (tree_names image ino inode)
+
 -- an inode: a node that the table has as its own file
 unfoldable pub is_inode : Image → ℕ → Bool
 is_inode image nid = option_map_or (λ e. e.ino == nid) (nat image nid) false
+
+-- the tree of an image
+unfoldable pub tree : Image → FileTree
+tree image ino = if is_inode image ino then option_map (tree_object image ino) (read_node image ino) else None

@@ -4,36 +4,9 @@ use Rattle.std.specs.Prelude.{find, nat_le, nat_lt, ◌&&◌, not, ◌==◌}
 use Rattle.std.specs.List.{range_with_len}
 use Rattle.std.proofs.lemmas.Bool.{leb-true, le-leb, lt-ltb, ne_eqb}
 use Rattle.f2_bytes.specs.declared.layout.Layout.{Layout}
-use Rattle.f2_bytes.specs.Bytes.{numbers_below}
 use Rattle.f2_bytes.specs.Journal.{NatEntry}
 use Rattle.f2_bytes.specs.NodeAddressTable.{nid_limit, next_live, is_live}
-
-find-some : (test : ℕ → Bool) (a n k : ℕ) → k < n → test (a + k) ≡ true → ((m : ℕ) → m < k → test (a + m) ≡ false) → find test (range_with_len a n) ≡ Some (a + k)
-find-some test a zero k below here before = absurd (omega (arith, below))
-find-some test a (suc n) zero below here before =
-    let first : test a ≡ true = ap test (omega arith) ∙ here in
-    ap (λ b. cond b (Some a) (find test (range_with_len (a + 1) n))) first ∙ ap (λ m. Some m) (omega arith)
-find-some test a (suc n) (suc k) below here before =
-    let first : test a ≡ false = ap test (omega arith) ∙ before 0 (omega arith) in
-    ap (λ b. cond b (Some a) (find test (range_with_len (a + 1) n))) first
-    ∙ find-some test (a + 1) n k (omega (arith, below)) (ap test (omega arith) ∙ here) (λ m lt. ap test (omega arith) ∙ before (suc m) (omega (arith, lt)))
-    ∙ ap (λ m. Some m) (omega arith)
-
-find-none : (test : ℕ → Bool) (a n : ℕ) → ((m : ℕ) → m < n → test (a + m) ≡ false) → find test (range_with_len a n) ≡ None
-find-none test a zero none = refl
-find-none test a (suc n) none =
-    let first : test a ≡ false = ap test (omega arith) ∙ none 0 (omega arith) in
-    ap (λ b. cond b (Some a) (find test (range_with_len (a + 1) n))) first
-    ∙ find-none test (a + 1) n (λ m lt. ap test (omega arith) ∙ none (suc m) (omega (arith, lt)))
-
-pub find-least : (test : ℕ → Bool) (n k : ℕ) → k < n → test k ≡ true → ((m : ℕ) → m < k → test m ≡ false) → find test (numbers_below n) ≡ Some k
-unfolding numbers_below
-find-least test n k below here before =
-    find-some test 0 n k below (ap test (omega arith) ∙ here) (λ m lt. ap test (omega arith) ∙ before m lt) ∙ ap (λ m. Some m) (omega arith)
-
-pub find-nothing : (test : ℕ → Bool) (n : ℕ) → ((m : ℕ) → m < n → test m ≡ false) → find test (numbers_below n) ≡ None
-unfolding numbers_below
-find-nothing test n none = find-none test 0 n (λ m lt. ap test (omega arith) ∙ none m lt)
+use Rattle.f2_bytes.proofs.Finds.{find-least, find-nothing}
 
 -- the test of a node's number, from its parts
 passes : (p q r z : Bool) → p ≡ true → q ≡ true → r ≡ true → z ≡ false → (p && (q && r && not z)) ≡ true
