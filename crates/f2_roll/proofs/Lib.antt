@@ -1,0 +1,3 @@
+pub mod Pigeons
+pub mod Rows
+pub mod Walks
