@@ -9,44 +9,10 @@ use Rattle.f2_bytes.specs.declared.layout.Layout.{Layout}
 use Rattle.f2_bytes.specs.Bytes.{Image, numbers_below}
 use Rattle.f2_bytes.specs.NodeAddressTable.{nid_limit, is_live, next_live, nat, image_nat_entry}
 use Rattle.f2_bytes.specs.Superblock.{layout, layout_of}
+use Rattle.f2_bytes.proofs.Finds.{found_first, none_passes}
 use Rattle.f2_bytes.proofs.SetBits.{range-append}
 use Rattle.f2_view.specs.Mounted.{Mounted, IsMountOf, layout_in}
 use Rattle.f2_dump.specs.Text.{lines_between, nat_line, node_line, segment_line, numbers_of, nat_lines, sit_lines}
-
--- number m is the first from a on that passes
-pub record IsFirst (test : ℕ → Bool) (a m : ℕ) : Type 0 where
-  pub passes : test m ≡ true
-  pub least : (k : ℕ) → a ≤ k → k < m → test k ≡ false
-
-first_next : (test : ℕ → Bool) (a m : ℕ) → test a ≡ false → IsFirst test (a + 1) m → IsFirst test a m
-first_next test a m fails first = record {
-  passes = first.passes;
-  least = λ k low high. elim (cases_lt a k) [
-    | inl above ↦ first.least k (omega (arith, above)) high
-    | inr not_above ↦ let same : a ≡ k = omega (arith, low, not_above) in subst (λ (j : ℕ). test j ≡ false) same fails
-  ];
-}
-
-first_here : (test : ℕ → Bool) (a m : ℕ) (rest : Option ℕ) (b : Bool) → test a ≡ b → (rest ≡ Some m → IsFirst test (a + 1) m) → cond b (Some a) rest ≡ Some m → IsFirst test a m
-first_here test a m rest true passes later is =
-    let same : a ≡ m = cc in
-    record { passes = subst (λ (j : ℕ). test j ≡ true) same passes; least = λ k low high. absurd (omega (arith, low, high, same)) }
-first_here test a m rest false fails later is = first_next test a m fails (later is)
-
-found_first : (test : ℕ → Bool) (a n m : ℕ) → find test (range_with_len a n) ≡ Some m → IsFirst test a m
-found_first test a zero m is = cc
-found_first test a (suc n) m is = first_here test a m (find test (range_with_len (a + 1) n)) (test a) refl (λ later. found_first test (a + 1) n m later) is
-
-none_here : (test : ℕ → Bool) (a k : ℕ) (rest : Option ℕ) (b : Bool) → test a ≡ b → a ≤ k → (rest ≡ None → a + 1 ≤ k → test k ≡ false) → cond b (Some a) rest ≡ None → test k ≡ false
-none_here test a k rest true passes low later is = cc
-none_here test a k rest false fails low later is = elim (cases_lt a k) [
-  | inl above ↦ later is (omega (arith, above))
-  | inr not_above ↦ let same : a ≡ k = omega (arith, low, not_above) in subst (λ (j : ℕ). test j ≡ false) same fails
-]
-
-none_passes : (test : ℕ → Bool) (a n : ℕ) → find test (range_with_len a n) ≡ None → (k : ℕ) → a ≤ k → k < a + n → test k ≡ false
-none_passes test a zero is k low high = absurd (omega (arith, low, high))
-none_passes test a (suc n) is k low high = none_here test a k (find test (range_with_len (a + 1) n)) (test a) refl low (λ later above. none_passes test (a + 1) n later k above (omega (arith, high))) is
 
 left_out : (p q : Bool) → p ≡ true → (p && q) ≡ false → q ≡ false
 left_out true q is out = out

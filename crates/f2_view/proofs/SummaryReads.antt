@@ -9,7 +9,7 @@ use Rattle.f2_bytes.specs.Bytes.{Block, Image, block_at, numbers_below}
 use Rattle.f2_bytes.specs.Checkpoint.{head, log, pack, pack_at, pack_number, chosen_pack, is_pack_valid}
 use Rattle.f2_bytes.specs.Summary.{summary, summary_in, summary_entry, pack_summary, missing_summary, log_of}
 use Rattle.f2_bytes.specs.Superblock.{layout, is_main, segment_of, place_of}
-use Rattle.f2_tables.proofs.Least.{find-least, find-nothing}
+use Rattle.f2_bytes.proofs.Finds.{find-least, find-nothing}
 use Rattle.f2_pack.proofs.Kept.{keeps_summaries}
 use Rattle.f2_pack.proofs.PackReads.{chosen_valid}
 use Rattle.f2_pack.specs.Held.{Held, held_summary}

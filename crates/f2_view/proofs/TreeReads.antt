@@ -55,7 +55,7 @@ module _ (image : Image) (ino : ℕ) where
       ∙ ap (option_and_then (λ (spot : ℕ × ℕ). option_and_then (λ above. read_node image (nid_in spot above)) (node_within n image ino spot.0))) (sym none)
 
   module _ (n m offset : ℕ) (spot : ℕ × ℕ) (is : n ≡ suc m) (other : offset ≢ 0) (parent : Some spot ≡ parent_of offset) where
-    one_step : node_within n image ino offset ≡ option_and_then (λ above. read_node image (nid_in spot above)) (node_within m image ino spot.0)
+    pub one_step : node_within n image ino offset ≡ option_and_then (λ above. read_node image (nid_in spot above)) (node_within m image ino spot.0)
     unfolding node_within
     one_step =
         ap (λ k. node_within k image ino offset) is

@@ -1,3 +1,4 @@
+pub mod Directories
 pub mod Mounted
 pub mod Mounting
 pub mod Readings

@@ -3,11 +3,13 @@ use f2_bytes::Layout;
 use f2_pack::{Chosen, Log};
 use f2_super::Found;
 use f2_tables::{Nat, Sit};
+use std::alloc::Global;
 use std::marker::Model;
 
 /// An image that is mounted: what is kept of its superblock and its checkpoint pack, and its two tables.
 #[derive(Drop)]
 pub struct Mount {
+    pub(crate) alloc: Global,
     found: Found,
     chosen: Chosen,
     pub(crate) nat: Nat,
@@ -32,11 +34,12 @@ impl Mount {
     ghost use Rattle.f2_pack.specs.Logs.{log_of};
 
     // The mount of an image with this superblock and this checkpoint pack, and the tables that were opened with them.
-    pub(crate) fn of(found: Found, chosen: Chosen, nat: Nat, sit: Sit) -> Mount
+    pub(crate) fn of(alloc: Global, found: Found, chosen: Chosen, nat: Nat, sit: Sit) -> Mount
         requires { IsWhole (record { found = found; chosen = chosen }) nat sit }
         ensures { result ≡ record { found = found; chosen = chosen } }
     {
         Mount {
+            alloc,
             found,
             chosen,
             nat,
@@ -78,7 +81,7 @@ impl Mount {
     pub fn nid_limit(&self) -> u32
         ensures { result ≡ nid_limit (layout_in self.now) }
     {
-        455 * self.layout().nat_half
+        self.nat.limit()
     }
 
     /// The version of the checkpoint, below 2^62.

@@ -3,7 +3,7 @@ ghost use Rattle.std.specs.Prelude.{◌≡◌, ◌≤◌, false, if◌then◌els
 ghost use Rattle.f2_bytes.specs.Bytes.{Image};
 ghost use Rattle.f2_bytes.specs.Superblock.{is_main};
 ghost use Rattle.f2_bytes.specs.Tree.{read_node, tree_node, tree_slot};
-ghost use Rattle.f2_bytes.specs.Tree.{node_within as node_in_steps};
+ghost use Rattle.f2_bytes.specs.Tree.{main_block as block_in_main, node_within as node_in_steps};
 ghost use Rattle.f2_disk.specs.Disk.{Reads, Goes, Rose};
 ghost use Rattle.f2_view.specs.Mounted.{layout_in, IsMountOf};
 
@@ -23,6 +23,30 @@ fn is_in_main(l: &Layout, address: u32) -> bool
 }
 
 impl Mount {
+    /// Reads the block at this address, where that lies in the main area: true exactly then. Else the block stays. After a
+    /// refusal its bytes are any.
+    pub fn main_block<D: Disk>(
+        &self,
+        d: &mut D,
+        address: u32,
+        into: &mut Block,
+    ) -> Result<bool, ViewRefusal>
+        requires lies { (layout_in self.now).blocks ≤ (D.state d.old).size }
+        ensures block { IfOk result (λ found. (image : Image) → (D.state d.old).told ≡ Some image → IsMountOf image self.now
+            → block_in_main image address ≡ (if found then Some into.new else None)) }
+        ensures stays { result ≡ Ok false → into.new ≡ into.old }
+        ensures reads { Reads (D.state d.old) (D.state d.new) }
+        ensures goes { Goes (D.state d.old) (D.state d.new) }
+        ensures fault { IsErrOf result ViewRefusal.DiskFault → Rose (D.state d.old).faults (D.state d.new).faults }
+    {
+        let l = self.layout();
+        if !is_in_main(&l, address) {
+            return Ok(false);
+        }
+        d.read(u64::from(address), into)?;
+        Ok(true)
+    }
+
     /// Reads the node with this nid, where the node address table has one with an address in the main area: true
     /// exactly then. Else the block stays. After a refusal its bytes are any.
     pub fn node<D: Disk>(
@@ -43,15 +67,11 @@ impl Mount {
         if nid < FIRST_NID {
             return Ok(false);
         }
-        if nid >= self.nid_limit() {
+        if nid >= self.nat.limit() {
             return Ok(false);
         }
         let address = self.nat_entry(d, nid)?.addr;
-        if !is_in_main(&self.layout(), address) {
-            return Ok(false);
-        }
-        d.read(u64::from(address), into)?;
-        Ok(true)
+        self.main_block(d, address, into)
     }
 
     // Reads the node of file `ino` at this offset among the file's nodes, where at most so many steps down from the inode

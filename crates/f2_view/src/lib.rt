@@ -2,11 +2,16 @@
 #![tactic(auto)]
 
 mod accessors;
+mod directories;
 mod files;
 mod mounting;
 mod readings;
 mod summaries;
 
 pub use accessors::Mount;
+pub use directories::Named;
 pub use mounting::{MountRefusal, mount};
 pub use readings::ViewRefusal;
+
+#[cfg(test)]
+mod tests;

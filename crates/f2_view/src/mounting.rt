@@ -101,5 +101,5 @@ pub fn mount<D: Disk>(alloc: Global, d: &mut D) -> Result<Mount, MountRefusal>
     let chosen = choose(alloc, d, &layout)?;
     let nat = Nat::open(alloc, &layout, chosen.nat_bits(), chosen.nat_journal())?;
     let sit = Sit::open(alloc, &layout, chosen.sit_bits(), chosen.sit_journal())?;
-    Ok(Mount::of(found, chosen, nat, sit))
+    Ok(Mount::of(alloc, found, chosen, nat, sit))
 }

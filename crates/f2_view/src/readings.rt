@@ -8,12 +8,13 @@ ghost use Rattle.f2_disk.specs.Disk.{Reads, Goes, Rose};
 ghost use Rattle.f2_sum.specs.Records.{nat_entry, sit_entry};
 ghost use Rattle.f2_view.specs.Mounted.{layout_in, IsMountOf};
 ghost use Rattle.f2_view.specs.Readings.{view_refusal};
-ghost use Rattle.f2_view.specs.declared.readings.ViewRefusal.TheVariants.{DiskFault as Faulted};
+ghost use Rattle.f2_view.specs.declared.readings.ViewRefusal.TheVariants.{DiskFault as Faulted, NoMemory as MemoryShort};
 
 use crate::Mount;
 use f2_disk::{Disk, DiskFault};
 use f2_sum::{NatEntry, SitEntry};
 use f2_tables::TableRefusal;
+use std::alloc::AllocError;
 use thiserror::Error;
 
 /// Why a reading of a mounted image failed.
@@ -43,6 +44,14 @@ impl From<DiskFault> for ViewRefusal {
 
     fn from(_: DiskFault) -> Self {
         ViewRefusal::DiskFault
+    }
+}
+
+impl From<AllocError> for ViewRefusal {
+    ghost from_gives = { λ _ e. e ≡ MemoryShort };
+
+    fn from(_: AllocError) -> Self {
+        ViewRefusal::NoMemory
     }
 }
 
