@@ -1,3 +1,6 @@
 pub mod Agree
+pub mod Filled
 pub mod Loadable
 pub mod Repairs
+pub mod NewCopies
+pub mod NewSizes

@@ -41,7 +41,7 @@ impl Super {
     ghost use Rattle.f2_bytes.specs.Superblock.{superblock_rows, copy_row, copy_passes, agree, agree_at, layout_of, block_count, IsInOrder};
 
     // The copy with these bytes.
-    fn of(bytes: &[u8]) -> Super
+    pub(crate) fn of(bytes: &[u8]) -> Super
         requires size { length bytes.now ≡ 3072 }
         requires passes { copy_passes bytes.now ≡ true }
         ensures { result ≡ bytes.now }

@@ -5,6 +5,12 @@
 mod copies;
 mod features;
 mod loading;
+mod making;
+mod sizes;
+mod sizing;
 
 pub use copies::{Super, read_copy, write_copy};
 pub use loading::{Found, SuperRefusal, load, repair};
+pub use making::new_super;
+pub use sizes::{Geometry, GeometryRefusal};
+pub use sizing::{geometry, geometry_of};

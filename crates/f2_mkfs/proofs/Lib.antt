@@ -1,0 +1,17 @@
+pub mod BlocksLaid
+pub mod InodeLaid
+pub mod LaidIsNew
+pub mod LaidSteps
+pub mod LittleBytes
+pub mod NamesLaid
+pub mod NewAnswers
+pub mod NewHeads
+pub mod NewInodes
+pub mod NewLabels
+pub mod NewNames
+pub mod NewTables
+pub mod PackLaid
+pub mod Runs
+pub mod SuperLaid
+pub mod TableLaid
+pub mod TreeLaid

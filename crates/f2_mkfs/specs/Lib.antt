@@ -1,0 +1,9 @@
+pub mod Formatting
+pub mod Heads
+pub mod Labels
+pub mod Laid
+pub mod Laws
+pub mod NewImage
+pub mod Parts
+pub mod Slots
+pub mod Steps
