@@ -1,5 +1,5 @@
 #!/usr/bin/env bash
-# Repairs the destroyed first superblock copy of a small image, and then finds nothing more to do.
+# Makes a small image, reads its checkpoint and its root, and repairs its superblock after the first copy was destroyed.
 set -euo pipefail
 
 top=$(cd "$(dirname "$0")/.." && pwd)
@@ -7,20 +7,46 @@ program=$(realpath -m "${F2TOOLS:-$top/crates/f2_tools/out/f2_tools}")
 tmp=$(mktemp -d "${TMPDIR:-/tmp}/f2tools.XXXXXX")
 trap 'rm -rf "$tmp"' EXIT
 
-# show STATUS TEXT: runs the job, and ends the demo where it does not end so.
+# run WORD..: runs a job on the image, and leaves its text and status.
+run() {
+    status=0
+    echo "\$ f2tools image $*"
+    text=$("$program" "$tmp/image" "$@") || status=$?
+}
+
+# show STATUS TEXT WORD..: runs the job, and ends the demo where it does not end so.
 show() {
-    local status=0 text
-    echo "\$ f2tools image fsck --super"
-    text=$("$program" "$tmp/image" fsck --super) || status=$?
+    local wanted=$1 answer=$2
+    shift 2
+    run "$@"
     printf '%s\n' "$text" "(status $status)"
-    if [[ $status != "$1" || $text != "$2" ]]; then
-        echo "FAILED: '$2' with status $1 was wanted"
+    if [[ $status != "$wanted" || $text != "$answer" ]]; then
+        echo "FAILED: '$answer' with status $wanted was wanted"
         exit 1
     fi
 }
 
-echo "An image of 64 MiB. Its first superblock copy, in block 0, is all zeros; the second one is good."
-python3 "$top/scripts/superblock_image.py" "$tmp/image" 16384 --zero-first
-show 1 corrected
-echo "The first copy is written anew from the second one. Once more:"
-show 0 'done'
+# show_first LINES WORD..: runs the job, and shows the first lines of its text; it has to be done.
+show_first() {
+    local lines=$1
+    shift
+    run "$@"
+    head -n "$lines" <<<"$text"
+    echo '...'
+    if [[ $status != 0 ]]; then
+        echo "FAILED: status $status"
+        exit 1
+    fi
+}
+
+echo "A new image in a sparse file of 64 MiB:"
+truncate -s 64M "$tmp/image"
+show 0 $'blocks 16384 main 24\ndone' mkfs -l demo -O lost_found
+echo "Its checkpoint, and the inode of its root:"
+show_first 6 dump --cp
+show_first 9 dump -i 3
+echo "The first superblock copy, in block 0, is destroyed:"
+dd if=/dev/zero of="$tmp/image" bs=4096 count=1 conv=notrunc status=none
+show 1 corrected fsck --super
+echo "It was written anew from the second one. Once more:"
+show 0 'done' fsck --super

@@ -3,6 +3,7 @@ ghost use Rattle.std.specs.Prelude.{◌≡◌, ◌<◌, ◌≤◌, ◌^◌, true
 ghost use Rattle.f2_disk.specs.Disk.{Rose};
 ghost use Rattle.f2_tools.specs.Edge.{file_state, tells_none, told_none};
 
+use crate::ahead::Ahead;
 use f2_disk::{Block, Disk, DiskFault};
 use std::fs::{self, File, OpenOptions};
 use std::io;
@@ -17,6 +18,7 @@ pub struct FileDisk {
     pending: bool,
     faults: u64,
     writes: u64,
+    ahead: Ahead,
     ghost small: { blocks < 2 ^ 52 },
 }
 
@@ -43,6 +45,7 @@ impl FileDisk {
             pending: false,
             faults: 0,
             writes: 0,
+            ahead: Ahead::none(),
         }
     }
 
@@ -55,6 +58,7 @@ impl FileDisk {
                 pending: false,
                 faults: 0,
                 writes: 0,
+                ahead: Ahead::none(),
             },
             Err(_) => FileDisk::none(),
         }
@@ -94,18 +98,21 @@ impl Disk for FileDisk {
     }
 
     fn read(&mut self, at: u64, into: &mut Block) -> Result<(), DiskFault> {
-        let mut bytes = [0; 4096];
+        let blocks = self.blocks;
         let well = match &self.file {
-            Some(file) => file.read_exact_at(&mut bytes, at * 4096).is_ok(),
+            Some(file) => self.ahead.find(file, at, blocks),
             None => false,
         };
-        into.put(0, &bytes);
+        if let Some(bytes) = self.ahead.get(at) {
+            into.put(0, bytes);
+        }
         FileDisk::answer(&mut self.faults, well)
     }
 
     fn write(&mut self, at: u64, from: &Block) -> Result<(), DiskFault> {
         self.writes = self.writes.saturating_add(1);
         self.pending = true;
+        self.ahead.forget(at);
         let well = match &self.file {
             Some(file) => file.write_all_at(from.bytes(), at * 4096).is_ok(),
             None => false,

@@ -1,13 +1,19 @@
-//! The program f2tools: a file as the disk, standard output as the sink, and the words of the command line.
+//! The program f2tools: a file or memory as the disk, standard output as the sink, and the words of the command line.
 #![tactic(auto)]
 
+mod ahead;
 mod file_disk;
+mod fresh;
+mod memory_image;
 mod stdout_sink;
 #[cfg(test)]
 mod tests;
 
+use f2_disk::MemoryDisk;
 use f2_top::{Answer, run};
 use file_disk::FileDisk;
+use fresh::{fresh_uuid, time};
+use memory_image::memory_blocks;
 use std::alloc::Global;
 use std::fs::File;
 use std::io;
@@ -23,18 +29,30 @@ fn words(rt: &HostRuntime, alloc: Global) -> Result<Vec<String>, Answer> {
     }
 }
 
+// Runs the words behind the image, which is a file, or zeros in memory.
 fn answer(rt: &HostRuntime, alloc: Global) -> Answer {
     let words = match words(rt, alloc) {
         Ok(words) => words,
         Err(answer) => return answer,
     };
-    let mut disk = match words.get(1) {
-        Some(image) => FileDisk::open(rt, image.as_str()),
-        None => FileDisk::none(),
+    let image = match words.get(1) {
+        Some(image) => image.as_str(),
+        None => "",
     };
-    let mut out = StdoutSink::new(rt.stdout());
     let rest: &[String] = if words.len() > 2 { &words[2..] } else { &[] };
-    run(alloc, rest, &mut disk, &mut out, 0, [0; 16])
+    let mut out = StdoutSink::new(rt.stdout());
+    let now = time(rt);
+    let (moment, id) = (now.as_secs(), fresh_uuid(now.as_nanos()));
+    match memory_blocks(image) {
+        Some(blocks) => {
+            let mut disk = MemoryDisk::new(alloc, blocks, Vec::new(alloc));
+            run(alloc, rest, &mut disk, &mut out, moment, id)
+        }
+        None => {
+            let mut disk = FileDisk::open(rt, image);
+            run(alloc, rest, &mut disk, &mut out, moment, id)
+        }
+    }
 }
 
 fn main(rt: HostRuntime) -> ExitCode {

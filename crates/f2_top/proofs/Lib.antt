@@ -1,3 +1,17 @@
+pub mod Building
+pub mod Defaults
+pub mod FeatureLists
+pub mod Getters
+pub mod Grammars
+pub mod Known
+pub mod KnownFeatures
+pub mod Letters
+pub mod Parsed
+pub mod Parses
+pub mod Spelling
+pub mod Turns
+pub mod Used
+pub mod UuidDigits
 mod Answered
 mod Digits
 mod Texts

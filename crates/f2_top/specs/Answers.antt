@@ -1,5 +1,5 @@
 -- The answers of a run.
-use Rattle.std.specs.Prelude.{ℕ}
+use Rattle.std.specs.Prelude.{◌≡◌, ℕ, Bool, false}
 use Rattle.f2_top.specs.declared.answer.Answer.{Answer}
 use Rattle.f2_top.specs.declared.answer.Answer.TheVariants.{Done, Corrected, DiskFault, SinkFault, Usage, Refused, NoMemory}
 
@@ -19,9 +19,10 @@ IsSuccess Done = Unit {0}
 IsSuccess Corrected = Unit {0}
 IsSuccess _ = ⊥
 
--- with these answers nothing was written to the disk
-abbrev pub IsIdle : Answer → Type 0
-IsIdle Done = Unit {0}
-IsIdle Usage = Unit {0}
-IsIdle (Refused refusal) = Unit {0}
-IsIdle _ = ⊥
+-- with these answers nothing was written to the disk, whether or not the job makes an image
+abbrev pub IsIdle : Bool → Answer → Type 0
+IsIdle makes Done = makes ≡ false
+IsIdle makes Usage = Unit {0}
+IsIdle makes (Refused refusal) = Unit {0}
+IsIdle makes NoMemory = Unit {0}
+IsIdle makes _ = ⊥

@@ -1,5 +1,9 @@
 pub mod Answers
+pub mod Features
 pub mod Jobs
 pub mod Numbers
+pub mod Parser
 pub mod Run
 pub mod Text
+pub mod Tools
+pub mod Words

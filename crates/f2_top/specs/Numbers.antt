@@ -1,5 +1,5 @@
--- The texts of numbers, of inode numbers and of ranges.
-use Rattle.std.specs.Prelude.{ℕ, ◌^◌, Bool, ◌&&◌, ◌==◌, nat_eq, nat_lt, if◌then◌else◌, List, length, drop, codes, bytes_eq, Option, Some, None, option_map}
+-- The texts of numbers, of inode numbers, of ranges and of uuids.
+use Rattle.std.specs.Prelude.{ℕ, zero, suc, ◌+◌, ◌*◌, ◌^◌, Bool, ◌&&◌, ◌==◌, nat_eq, nat_lt, if◌then◌else◌, List, [], ◌∷◌, length, slice_index, drop, codes, bytes_eq, Option, Some, None, option_map}
 use Rattle.std.specs.Char.{digit_value}
 use Rattle.std.specs.List.{list_all, starts_with, before_first, after_first}
 use Rattle.std.specs.Option.{option_and_then}
@@ -33,3 +33,28 @@ is_tilde b = b == 126
 unfoldable pub range_of : List ℕ → Option (ℕ × Option ℕ)
 range_of text =
     option_and_then (λ first. option_map (λ last. (first, last)) (end_of (after_first is_tilde text))) (number_of (before_first is_tilde text))
+
+-- the number that two hexadecimal digits write, of which the first stands at this place
+unfoldable pub pair_of : List ℕ → ℕ → Option ℕ
+pair_of text at =
+    let high = digit_value (slice_index text at) in
+    let low = digit_value (slice_index text (at + 1)) in
+    if nat_lt high 16 && nat_lt low 16 then Some (high * 16 + low) else None
+
+-- the place of the digits of byte i of a uuid: a hyphen stands before bytes 4, 6, 8 and 10
+abbrev pub uuid_place : ℕ → ℕ
+uuid_place i = 2 * i + (if nat_lt i 4 then 0 else (if nat_lt i 6 then 1 else (if nat_lt i 8 then 2 else (if nat_lt i 10 then 3 else 4))))
+
+-- the n bytes of a uuid from byte i on
+abbrev pub uuid_bytes : List ℕ → ℕ → ℕ → Option (List ℕ)
+uuid_bytes text i zero = Some []
+uuid_bytes text i (suc n) = option_and_then (λ b. option_map (λ bs. b ∷ bs) (uuid_bytes text (i + 1) n)) (pair_of text (uuid_place i))
+
+-- a text of 36 characters, with hyphens behind 8, 4, 4 and 4 digits
+abbrev pub has_hyphens : List ℕ → Bool
+has_hyphens text = length text == 36
+    && (slice_index text 8 == 45 && (slice_index text 13 == 45 && (slice_index text 18 == 45 && slice_index text 23 == 45)))
+
+-- the bytes of the uuid that a text writes: 32 hexadecimal digits, in groups of 8, 4, 4, 4 and 12 with hyphens between them
+unfoldable pub uuid_of : List ℕ → Option (List ℕ)
+uuid_of text = if has_hyphens text then uuid_bytes text 0 16 else None

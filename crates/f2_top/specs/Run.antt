@@ -1,9 +1,10 @@
 -- What a run answers, what it prints, and what it leaves on the disk.
-use Rattle.std.specs.Prelude.{◌≡◌, ◌≢◌, ◌⊎◌, ℕ, true, if◌then◌else◌, List, [], ◌++◌, take, Option, Some, None, Result, Ok, Err}
+use Rattle.std.specs.Prelude.{◌≡◌, ◌≢◌, ◌⊎◌, ℕ, ◌&&◌, not, true, if◌then◌else◌, List, [], ◌++◌, take, Option, Some, None, Result, Ok, Err}
 use Rattle.f2_bytes.specs.Bytes.{Image}
 use Rattle.f2_bytes.specs.Superblock.{has_twins, is_loadable}
 use Rattle.f2_disk.specs.Disk.{State, Rose}
 use Rattle.f2_super.specs.Load.{loaded, repaired}
+use Rattle.f2_super.specs.declared.sizes.Geometry.{Geometry}
 use Rattle.f2_super.specs.declared.loading.Found.{Found}
 use Rattle.f2_super.specs.declared.loading.SuperRefusal.{SuperRefusal}
 use Rattle.f2_super.specs.declared.loading.SuperRefusal.TheVariants as load
@@ -13,13 +14,18 @@ use Rattle.f2_view.specs.declared.mounting.MountRefusal.{MountRefusal}
 use Rattle.f2_view.specs.declared.mounting.MountRefusal.TheVariants as mount
 use Rattle.f2_dump.specs.declared.dumping.What.{What}
 use Rattle.f2_dump.specs.Text.{dump_lines, missing, outside}
-use Rattle.f2_top.specs.Jobs.{takes_memory}
-use Rattle.f2_top.specs.Text.{IsText}
+use Rattle.f2_mkfs.specs.Formatting.{has_magic, size_answer, unless_there, format_answer}
+use Rattle.f2_mkfs.specs.NewImage.{IsNew}
+use Rattle.f2_mkfs.specs.declared.formatting.FormatRefusal.{FormatRefusal}
+use Rattle.f2_mkfs.specs.declared.formatting.FormatRefusal.TheVariants as new
+use Rattle.f2_mkfs.specs.declared.formatting.Options.{Options}
+use Rattle.f2_top.specs.Jobs.{options_of}
+use Rattle.f2_top.specs.Text.{IsText, size_line}
 use Rattle.f2_top.specs.declared.answer.Answer.{Answer}
 use Rattle.f2_top.specs.declared.answer.Answer.TheVariants.{Done, Corrected, DiskFault, SinkFault, Usage, Refused, NoMemory}
-use Rattle.f2_top.specs.declared.answer.Refusal.TheVariants.{NoSuper, Unsupported, TooLarge, Truncated, NoPack, VersionLimit, BadSummary, OutOfRange, NoSuchNode}
+use Rattle.f2_top.specs.declared.answer.Refusal.TheVariants.{NoSuper, Unsupported, TooLarge, Truncated, NoPack, VersionLimit, BadSummary, DeviceTooSmall, TooSmall, OutOfRange, NoSuchNode, Exists}
 use Rattle.f2_top.specs.declared.jobs.Job.{Job}
-use Rattle.f2_top.specs.declared.jobs.Job.TheVariants.{Super, Dump}
+use Rattle.f2_top.specs.declared.jobs.Job.TheVariants.{Super, Dump, Mkfs}
 
 -- what repairing the superblock copies answers to what was loaded, without a fault
 abbrev pub super_answer : Result Found SuperRefusal → Answer
@@ -63,21 +69,64 @@ abbrev pub mounted_lines : What → Image → Result Mounted MountRefusal → Li
 mounted_lines what image (Ok m) = dump_lines image what
 mounted_lines what image (Err refusal) = []
 
+-- what making an image answers, without a fault
+abbrev pub new_answer : Result Geometry FormatRefusal → Answer
+new_answer (Ok g) = Done
+new_answer (Err (new.DeviceTooSmall blocks held)) = Refused (DeviceTooSmall blocks held)
+new_answer (Err (new.TooLarge blocks)) = Refused (TooLarge blocks)
+new_answer (Err (new.TooSmall main least)) = Refused (TooSmall main least)
+new_answer (Err new.Exists) = Refused Exists
+new_answer (Err new.DiskFault) = DiskFault
+new_answer (Err new.NoMemory) = NoMemory
+
+-- its lines, for its sizes
+abbrev pub new_lines : Result Geometry FormatRefusal → List ℕ
+new_lines (Ok g) = size_line g
+new_lines (Err refusal) = []
+
+-- and what it leaves of an image: a new one, or this one where it is refused
+abbrev pub LeavesNew : Options → Result Geometry FormatRefusal → Image → Image → Type 0
+LeavesNew o (Ok g) image left = IsNew o g left
+LeavesNew o (Err refusal) image left = left ≡ image
+
+-- What it answers on every disk: by its sizes, unless it is refused for what the disk holds, or ended early. A fault of the
+-- sink comes where it would have been done.
+abbrev pub FitsSizes : Result Geometry FormatRefusal → Answer → Type 0
+FitsSizes sizes (Refused Exists) = Unit {0}
+FitsSizes sizes DiskFault = Unit {0}
+FitsSizes sizes NoMemory = Unit {0}
+FitsSizes sizes SinkFault = Done ≡ new_answer sizes
+FitsSizes sizes answer = answer ≡ new_answer sizes
+
 -- what a job answers on a disk of this many blocks, without a fault and with memory
 abbrev pub answer_of : Option Job → ℕ → Image → Answer
 answer_of None size image = Usage
 answer_of (Some Super) size image = super_answer (loaded size image)
 answer_of (Some (Dump what)) size image = dump_answer what image (mounted size image)
+answer_of (Some (Mkfs sectors label uuid second features force)) size image =
+    new_answer (unless_there (not force && has_magic image) (size_answer size sectors))
 
--- the image that it leaves
-abbrev pub image_of : Option Job → ℕ → Image → Image
-image_of (Some Super) size image = super_image (loaded size image) image
-image_of job size image = image
+-- what it leaves of an image; a new one has this moment and this uuid where the job gives none
+abbrev pub Leaves : Option Job → ℕ → List ℕ → ℕ → Image → Image → Type 0
+Leaves (Some Super) moment id size image left = left ≡ super_image (loaded size image) image
+Leaves (Some (Mkfs sectors label uuid second features force)) moment id size image left =
+    let o = options_of sectors label uuid second features force moment id in LeavesNew o (format_answer size image o) image left
+Leaves job moment id size image left = left ≡ image
 
--- and its lines: only a dump's are those of an image, which the disk then has to tell
+-- a disk that told this image tells what the job leaves of it
+abbrev pub IsLeft : Option Job → ℕ → List ℕ → ℕ → Image → Option Image → Type 0
+IsLeft job moment id size image told = (left : Image) × (told ≡ Some left) × Leaves job moment id size image left
+
+-- a job's lines: a dump's are those of an image, which the disk then has to tell, and a new image's say its sizes
 abbrev pub AreLines : Option Job → State → List ℕ → Type 0
 AreLines (Some (Dump what)) old lines = (image : Image) × (old.told ≡ Some image) × (lines ≡ mounted_lines what image (mounted old.size image))
+AreLines (Some (Mkfs sectors label uuid second features force)) old lines = lines ≡ new_lines (size_answer old.size sectors)
 AreLines job old lines = lines ≡ []
+
+-- a job that makes an image answers by its sizes, also on a disk that tells nothing
+abbrev pub AreSizes : Option Job → ℕ → Answer → Type 0
+AreSizes (Some (Mkfs sectors label uuid second features force)) size answer = FitsSizes (size_answer size sectors) answer
+AreSizes job size answer = Unit {0}
 
 -- What a job may answer, but for a fault of the sink.
 pub record Allowed (job : Option Job) (old new : State) (answer : Answer) : Type 0 where
@@ -85,19 +134,17 @@ pub record Allowed (job : Option Job) (old new : State) (answer : Answer) : Type
   pub exact : (image : Image) → old.told ≡ Some image → (answer ≡ answer_of job old.size image) ⊎ ((answer ≡ DiskFault) ⊎ (answer ≡ NoMemory))
   -- a fault only where the disk had one
   pub fault : answer ≡ DiskFault → Rose old.faults new.faults
-  -- Usage exactly where the words name no job, on every disk
-  pub usage : job ≡ None → answer ≡ Usage
+  -- Usage where the words name no job, unless memory was short, and only there, on every disk
+  pub usage : job ≡ None → (answer ≡ Usage) ⊎ (answer ≡ NoMemory)
   pub used : answer ≡ Usage → job ≡ None
-  -- want of memory only in a job that takes some
-  pub memory : answer ≡ NoMemory → takes_memory job ≡ true
+  -- the sizes of a new image, on every disk
+  pub sizes : AreSizes job old.size answer
   pub sink : answer ≢ SinkFault
 
 -- what a job answers where neither the disk nor the sink has a fault
 abbrev pub IsAnswered : Option Job → ℕ → Image → Answer → Type 0
-IsAnswered None size image answer = answer ≡ Usage
-IsAnswered (Some Super) size image answer =
-    (answer ≡ super_answer (loaded size image)) × (is_loadable image ≡ true → answer ≡ (if has_twins image then Done else Corrected))
-IsAnswered (Some (Dump what)) size image answer = (answer ≡ dump_answer what image (mounted size image)) ⊎ (answer ≡ NoMemory)
+IsAnswered job size image answer =
+    (answer ≡ NoMemory) ⊎ ((answer ≡ answer_of job size image) × (job ≡ Some Super → is_loadable image ≡ true → answer ≡ (if has_twins image then Done else Corrected)))
 
 -- What a sink tells that held these bytes before: the text of the answer, or, where the sink failed, a prefix of the text
 -- of an answer that was allowed.

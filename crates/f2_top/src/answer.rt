@@ -18,7 +18,7 @@ pub enum Answer {
     NoMemory,
 }
 
-/// Why a job is refused: the image can't be worked on, or lacks the number that the words name.
+/// Why a job is refused: the image can't be worked on, lacks the number that the words name, or can't be made.
 #[derive(Clone, Copy, Debug, PartialEq, Eq)]
 pub enum Refusal {
     /// Neither superblock copy passes.
@@ -35,11 +35,17 @@ pub enum Refusal {
     VersionLimit(u64),
     /// A journal says this many records: more than 38 of the node address table, or more than 6 of the segment table.
     BadSummary(u32),
+    /// The new image would have `blocks` blocks, more than the `held` ones of the disk.
+    DeviceTooSmall { blocks: u64, held: u64 },
+    /// The new image would have `main` main segments, fewer than the `least` ones that there must be.
+    TooSmall { main: u64, least: u64 },
     /// This number is at or past the limit of what can be dumped of the image, or is the first of a range and lies above
     /// its last.
     OutOfRange(u64),
     /// The image has no inode with this number, or its bytes are asked for and it is no regular file or symbolic link.
     NoSuchNode(u32),
+    /// Block 0 or 1 has the magic number of a superblock, and the new image isn't to be made by force.
+    Exists,
 }
 
 impl Answer {

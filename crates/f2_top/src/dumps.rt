@@ -44,7 +44,8 @@ pub fn dump_image<D: Disk, O: Sink>(alloc: Global, what: What, disk: &mut D, out
 
     // The lines that it puts.
     ensures lines { (had : List ℕ) → O.told out.old ≡ Some had → (image : Image) → (D.state disk.old).told ≡ Some image
-        → (text : List ℕ) × IsFront (mounted_lines what image (mounted (D.state disk.old).size image)) result text × (O.told out.new ≡ Some (had ++ text)) }
+        → let lines = mounted_lines what image (mounted (D.state disk.old).size image) in
+        (text : List ℕ) × IsFront lines lines result text × (O.told out.new ≡ Some (had ++ text)) }
 
     // It reads alone.
     ensures reads { Reads (D.state disk.old) (D.state disk.new) }

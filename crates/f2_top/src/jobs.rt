@@ -1,11 +1,35 @@
 // The jobs.
 use f2_dump::What;
+use f2_mkfs::Label;
 
 /// What a run is to do.
-#[derive(Clone, Copy, Debug, PartialEq, Eq)]
+#[derive(Clone, Copy)]
 pub enum Job {
     /// `fsck --super`: rewrite the superblock copy that is bad or disagrees.
     Super,
     /// `dump ..`: put what the image holds as lines.
     Dump(What),
+    /// `mkfs ..`: make a new image.
+    Mkfs {
+        /// Its length in sectors of 512 bytes; the whole disk where none is given.
+        sectors: Option<u64>,
+        label: Label,
+        /// The uuid of the run where none is given.
+        uuid: Option<[u8; 16]>,
+        /// The time of its files in seconds; the moment of the run where none is given.
+        second: Option<u64>,
+        /// Its feature bits: 0x200 for `lost+found`, 0x800 for superblock checksums.
+        features: u32,
+        /// Make it also where the disk seems to hold an image.
+        force: bool,
+    },
+}
+
+/// Why words give no job.
+#[derive(Clone, Copy, Debug, PartialEq, Eq)]
+pub enum WordsRefusal {
+    /// They name none.
+    Usage,
+    /// No memory is left.
+    NoMemory,
 }

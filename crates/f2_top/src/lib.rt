@@ -3,8 +3,11 @@
 #![tactic(auto)]
 
 mod answer;
+mod commands;
 mod dumps;
+mod features;
 mod jobs;
+mod new_images;
 mod numbers;
 mod report;
 mod super_copies;
@@ -18,6 +21,10 @@ pub use top::run;
 mod dump_tests;
 #[cfg(test)]
 mod file_tests;
+#[cfg(test)]
+mod mkfs_tests;
+#[cfg(test)]
+mod mkfs_word_tests;
 #[cfg(test)]
 mod table_tests;
 #[cfg(test)]

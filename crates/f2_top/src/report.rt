@@ -1,5 +1,5 @@
 // The lines that a run puts.
-ghost use Rattle.std.specs.Prelude.{◌≡◌, ◌++◌, decimal};
+ghost use Rattle.std.specs.Prelude.{◌≡◌, ◌++◌, decimal, codes, IsOk};
 ghost use Rattle.f2_disk.specs.Sink.{Puts};
 ghost use Rattle.f2_top.specs.Text.{refusal_line, last_line, last_of};
 
@@ -23,6 +23,20 @@ fn put_number<O: Sink>(
     out.put(after)
 }
 
+/// Puts a line of a text, a number in decimal, a text, and a number.
+pub fn put_pair<O: Sink>(
+    out: &mut O,
+    before: &[u8],
+    first: u64,
+    between: &[u8],
+    second: u64,
+) -> Result<(), SinkFault>
+    ensures { Puts (before.now ++ decimal first ++ between.now ++ decimal second ++ codes "\n") (O.told out.old) (O.told out.new) (O.faults out.old) (O.faults out.new) result }
+{
+    put_number(out, before, first, between)?;
+    put_number(out, b"", second, b"\n")
+}
+
 fn put_refusal<O: Sink>(out: &mut O, refusal: &Refusal) -> Result<(), SinkFault>
     ensures { Puts (refusal_line refusal.now) (O.told out.old) (O.told out.new) (O.faults out.old) (O.faults out.new) result }
 {
@@ -33,8 +47,7 @@ fn put_refusal<O: Sink>(out: &mut O, refusal: &Refusal) -> Result<(), SinkFault>
         }
         Refusal::TooLarge(blocks) => put_number(out, b"refused 3 TooLarge ", *blocks, b"\n"),
         Refusal::Truncated { blocks, held } => {
-            put_number(out, b"refused 4 Truncated ", *blocks, b" ")?;
-            put_number(out, b"", *held, b"\n")
+            put_pair(out, b"refused 4 Truncated ", *blocks, b" ", *held)
         }
         Refusal::NoPack => out.put(b"refused 5 NoPack\n"),
         Refusal::VersionLimit(version) => {
@@ -43,16 +56,24 @@ fn put_refusal<O: Sink>(out: &mut O, refusal: &Refusal) -> Result<(), SinkFault>
         Refusal::BadSummary(count) => {
             put_number(out, b"refused 7 BadSummary ", u64::from(*count), b"\n")
         }
+        Refusal::DeviceTooSmall { blocks, held } => {
+            put_pair(out, b"refused 11 DeviceTooSmall ", *blocks, b" ", *held)
+        }
+        Refusal::TooSmall { main, least } => {
+            put_pair(out, b"refused 12 TooSmall ", *main, b" ", *least)
+        }
         Refusal::OutOfRange(number) => put_number(out, b"refused 14 OutOfRange ", *number, b"\n"),
         Refusal::NoSuchNode(ino) => {
             put_number(out, b"refused 15 NoSuchNode ", u64::from(*ino), b"\n")
         }
+        Refusal::Exists => out.put(b"refused 16 Exists\n"),
     }
 }
 
 // Puts the last line of an answer. For `SinkFault` and `NoMemory` there is none.
 fn put_line<O: Sink>(out: &mut O, answer: &Answer) -> Result<(), SinkFault>
-    ensures { Puts (last_line answer.now) (O.told out.old) (O.told out.new) (O.faults out.old) (O.faults out.new) result }
+    ensures line { Puts (last_line answer.now) (O.told out.old) (O.told out.new) (O.faults out.old) (O.faults out.new) result }
+    ensures none { answer.now ≡ Answer.NoMemory → IsOk result }
 {
     match answer {
         Answer::Done => out.put(b"done\n"),
@@ -65,8 +86,9 @@ fn put_line<O: Sink>(out: &mut O, answer: &Answer) -> Result<(), SinkFault>
 }
 
 /// Puts the last line of a job's answer. A dump that is done has none.
-pub fn put_last<O: Sink>(out: &mut O, job: Option<Job>, answer: &Answer) -> Result<(), SinkFault>
-    ensures { Puts (last_of job answer.now) (O.told out.old) (O.told out.new) (O.faults out.old) (O.faults out.new) result }
+pub fn put_last<O: Sink>(out: &mut O, job: &Option<Job>, answer: &Answer) -> Result<(), SinkFault>
+    ensures line { Puts (last_of job.now answer.now) (O.told out.old) (O.told out.new) (O.faults out.old) (O.faults out.new) result }
+    ensures none { answer.now ≡ Answer.NoMemory → IsOk result }
 {
     match (job, answer) {
         (Some(Job::Dump(_)), Answer::Done) => Ok(()),

@@ -1,5 +1,5 @@
 // Words, and the jobs that they name.
-use crate::jobs::Job;
+use crate::jobs::{Job, WordsRefusal};
 use crate::tests::words;
 use crate::words::job;
 use f2_dump::What;
@@ -8,53 +8,155 @@ use std::test::Fail;
 // The greatest number of 64 bits.
 const MOST: u64 = 0xFFFF_FFFF_FFFF_FFFF;
 
-// Words that are no option with a value.
-const PLAIN: [(&[&str], Option<Job>); 45] = [
-    (&["fsck", "--super"], Some(Job::Super)),
-    (&["dump", "--cp"], Some(Job::Dump(What::Cp))),
-    (&[], None),
-    (&["dump"], None),
-    (&["dump", "-n"], None),
-    (&["dump", "-s"], None),
-    (&["dump", "--block"], None),
-    (&["dump", "--cp", "3"], None),
-    (&["dump", "--cp", ""], None),
-    (&["dump", "-n", "3~4", ""], None),
-    (&["dump", "--block", "3", "4"], None),
-    (&["dump", "-n", "3"], None),
-    (&["dump", "-s", "3"], None),
-    (&["dump", "--block", "3~4"], None),
-    (&["fsck", "-n", "3~4"], None),
-    (&["fsck", "--block", "3"], None),
-    (&["-n", "dump", "3~4"], None),
-    (&["dump", "3~4", "-n"], None),
-    (&["dump", "-N", "3~4"], None),
-    (&["dump", "-S", "3~4"], None),
-    (&["dump", "--n", "3~4"], None),
-    (&["dump", "-block", "3"], None),
-    (&["dump", "-a"], None),
-    (&["dump", "-i"], None),
-    (&["dump", "--cat"], None),
-    (&["dump", "-a", "3"], None),
-    (&["dump", "-i", "3~4"], None),
-    (&["dump", "--cat", "3~4"], None),
-    (&["dump", "-a", "3~4", ""], None),
-    (&["dump", "-i", "3", "4"], None),
-    (&["dump", "--cat", "3", "4"], None),
-    (&["fsck", "-a", "3~4"], None),
-    (&["fsck", "-i", "3"], None),
-    (&["fsck", "--cat", "3"], None),
-    (&["-i", "dump", "3"], None),
-    (&["dump", "3", "--cat"], None),
-    (&["dump", "-A", "3~4"], None),
-    (&["dump", "--a", "3~4"], None),
-    (&["dump", "-I", "3"], None),
-    (&["dump", "--i", "3"], None),
-    (&["dump", "-cat", "3"], None),
-    (&["dump", "--Cat", "3"], None),
-    (&["dump", "cat", "3"], None),
-    (&["dump", "--cat=3"], None),
-    (&["Dump", "--block", "3"], None),
+// What words ask for, but for what an image is to be.
+#[derive(Clone, Copy, Debug, PartialEq, Eq)]
+pub(crate) enum Asked {
+    Usage,
+    NoMemory,
+    Super,
+    Dump(What),
+    Image,
+}
+
+pub(crate) fn kind_of(answer: Result<Job, WordsRefusal>) -> Asked {
+    match answer {
+        Ok(Job::Super) => Asked::Super,
+        Ok(Job::Dump(what)) => Asked::Dump(what),
+        Ok(Job::Mkfs { .. }) => Asked::Image,
+        Err(WordsRefusal::Usage) => Asked::Usage,
+        Err(WordsRefusal::NoMemory) => Asked::NoMemory,
+    }
+}
+
+// Words of fsck and dump, and the job that they name.
+const FEW: [(&[&str], Asked); 57] = [
+    (&["fsck", "--super"], Asked::Super),
+    (&[], Asked::Usage),
+    (&["--super"], Asked::Usage),
+    (&["fsck", "--", "--super"], Asked::Usage),
+    (&["fsck", "--super="], Asked::Usage),
+    (&["fsck", "--super", ""], Asked::Usage),
+    (&["fsck", "--super", "--", "x"], Asked::Usage),
+    (&["fsck", "-super"], Asked::Usage),
+    (&["fsck", "--supe"], Asked::Usage),
+    (&["fsck", "super"], Asked::Usage),
+    (&["fsck", "-f"], Asked::Usage),
+    (&["fsck", "-h"], Asked::Usage),
+    (&["fsck", "-V"], Asked::Usage),
+    (&["Fsck", "--super"], Asked::Usage),
+    (&["", "--super"], Asked::Usage),
+    (&["fsck", "--cp"], Asked::Usage),
+    (&["fsck", "--block", "3"], Asked::Usage),
+    (&["resize", "--super"], Asked::Usage),
+    (&["dump", "--cp", "--"], Asked::Dump(What::Cp)),
+    (&["dump", "--"], Asked::Usage),
+    (&["dump", "--cp", "--cp"], Asked::Usage),
+    (&["dump", "--cp=3"], Asked::Usage),
+    (&["dump", "--cp", ""], Asked::Usage),
+    (&["dump", "--Cp"], Asked::Usage),
+    (&["dump", "--super"], Asked::Usage),
+    (&["dump", "--help"], Asked::Usage),
+    (&["dump", "help"], Asked::Usage),
+    (&["dump", "-n", "3~4", "--cp"], Asked::Usage),
+    (&["dump", "-n", "3~4", "-n", "3~4"], Asked::Usage),
+    (&["dump", "--block", "3", "--block=3"], Asked::Usage),
+    (&["dump", "-i", "3", "-a3~4"], Asked::Usage),
+    (&["dump", "-n", "3~4", "-s", "3"], Asked::Usage),
+    (&["dump", "-n=3~4"], Asked::Dump(What::Nat(3, Some(4)))),
+    (
+        &["dump", "-n", "3~4", "--"],
+        Asked::Dump(What::Nat(3, Some(4))),
+    ),
+    (&["dump", "-n", ""], Asked::Usage),
+    (&["dump", "-n", "--"], Asked::Usage),
+    (&["dump", "-n", "-3~4"], Asked::Usage),
+    (&["dump", "-n==3~4"], Asked::Usage),
+    (&["dump", "-n", "3~4", "3~4"], Asked::Usage),
+    (&["dump", "-n", "3~4", "-"], Asked::Usage),
+    (&["dump", "3~4", "-n"], Asked::Usage),
+    (&["-n", "dump", "3~4"], Asked::Usage),
+    (&["dump", "--n", "3~4"], Asked::Usage),
+    (&["dump", "-n", "-n", "3~4"], Asked::Usage),
+    (&["dump", "-s=3~4"], Asked::Dump(What::Sit(3, Some(4)))),
+    (
+        &["dump", "-s", "3~4", "--"],
+        Asked::Dump(What::Sit(3, Some(4))),
+    ),
+    (&["dump", "-s", ""], Asked::Usage),
+    (&["dump", "-s", "--"], Asked::Usage),
+    (&["dump", "-s", "-3~4"], Asked::Usage),
+    (&["dump", "-s==3~4"], Asked::Usage),
+    (&["dump", "-s", "3~4", "3~4"], Asked::Usage),
+    (&["dump", "-s", "3~4", "-"], Asked::Usage),
+    (&["dump", "3~4", "-s"], Asked::Usage),
+    (&["-s", "dump", "3~4"], Asked::Usage),
+    (&["dump", "--s", "3~4"], Asked::Usage),
+    (&["dump", "-s", "-s", "3~4"], Asked::Usage),
+    (&["dump", "-a=3~4"], Asked::Dump(What::Ssa(3, Some(4)))),
+];
+
+// More of them.
+const MORE: [(&[&str], Asked); 57] = [
+    (
+        &["dump", "-a", "3~4", "--"],
+        Asked::Dump(What::Ssa(3, Some(4))),
+    ),
+    (&["dump", "-a", ""], Asked::Usage),
+    (&["dump", "-a", "--"], Asked::Usage),
+    (&["dump", "-a", "-3~4"], Asked::Usage),
+    (&["dump", "-a==3~4"], Asked::Usage),
+    (&["dump", "-a", "3~4", "3~4"], Asked::Usage),
+    (&["dump", "-a", "3~4", "-"], Asked::Usage),
+    (&["dump", "3~4", "-a"], Asked::Usage),
+    (&["-a", "dump", "3~4"], Asked::Usage),
+    (&["dump", "--a", "3~4"], Asked::Usage),
+    (&["dump", "-a", "-a", "3~4"], Asked::Usage),
+    (&["dump", "-i=3"], Asked::Dump(What::Inode(3))),
+    (&["dump", "-i", "3", "--"], Asked::Dump(What::Inode(3))),
+    (&["dump", "-i", ""], Asked::Usage),
+    (&["dump", "-i", "--"], Asked::Usage),
+    (&["dump", "-i", "-3"], Asked::Usage),
+    (&["dump", "-i==3"], Asked::Usage),
+    (&["dump", "-i", "3", "3"], Asked::Usage),
+    (&["dump", "-i", "3", "-"], Asked::Usage),
+    (&["dump", "3", "-i"], Asked::Usage),
+    (&["-i", "dump", "3"], Asked::Usage),
+    (&["dump", "--i", "3"], Asked::Usage),
+    (&["dump", "-i", "-i", "3"], Asked::Usage),
+    (&["dump", "--block=3"], Asked::Dump(What::Raw(3))),
+    (&["dump", "--block", "3", "--"], Asked::Dump(What::Raw(3))),
+    (&["dump", "--block", ""], Asked::Usage),
+    (&["dump", "--block", "--"], Asked::Usage),
+    (&["dump", "--block", "-3"], Asked::Usage),
+    (&["dump", "--block==3"], Asked::Usage),
+    (&["dump", "--block", "3", "3"], Asked::Usage),
+    (&["dump", "--block", "3", "-"], Asked::Usage),
+    (&["dump", "3", "--block"], Asked::Usage),
+    (&["--block", "dump", "3"], Asked::Usage),
+    (&["dump", "-block", "3"], Asked::Usage),
+    (&["dump", "--block", "--block", "3"], Asked::Usage),
+    (&["dump", "--cat=3"], Asked::Dump(What::Cat(3))),
+    (&["dump", "--cat", "3", "--"], Asked::Dump(What::Cat(3))),
+    (&["dump", "--cat", ""], Asked::Usage),
+    (&["dump", "--cat", "--"], Asked::Usage),
+    (&["dump", "--cat", "-3"], Asked::Usage),
+    (&["dump", "--cat==3"], Asked::Usage),
+    (&["dump", "--cat", "3", "3"], Asked::Usage),
+    (&["dump", "--cat", "3", "-"], Asked::Usage),
+    (&["dump", "3", "--cat"], Asked::Usage),
+    (&["--cat", "dump", "3"], Asked::Usage),
+    (&["dump", "-cat", "3"], Asked::Usage),
+    (&["dump", "--cat", "--cat", "3"], Asked::Usage),
+    (&["dump", "-n", "3~-1"], Asked::Dump(What::Nat(3, None))),
+    (&["dump", "-n-1~3"], Asked::Usage),
+    (&["dump", "-ni", "3"], Asked::Usage),
+    (&["dump", "-ns3~4"], Asked::Usage),
+    (&["dump", "--\u{e9}", "3"], Asked::Usage),
+    (&["dump", "\u{e9}"], Asked::Usage),
+    (&["dump", "--bloc", "3"], Asked::Usage),
+    (&["dump", "--blocks", "3"], Asked::Usage),
+    (&["dump", "--=3"], Asked::Usage),
+    (&["dump", "--block\n", "3"], Asked::Usage),
 ];
 
 // Numbers, and what they are.
@@ -171,8 +273,19 @@ const RANGES: [(&str, Option<(u64, Option<u64>)>); 36] = [
 #[test]
 fn words_name_jobs(rt: HostRuntime) -> Result<(), Fail> {
     let alloc = rt.alloc();
-    for (texts, wanted) in PLAIN {
-        assert_eq!(rt; job(&words(alloc, texts)?), wanted);
+    for (texts, wanted) in FEW {
+        let words = words(alloc, texts)?;
+        assert_eq!(rt; kind_of(job(alloc, &words)), wanted, "{texts:?}");
+    }
+    Ok(())
+}
+
+#[test]
+fn more_words_name_jobs(rt: HostRuntime) -> Result<(), Fail> {
+    let alloc = rt.alloc();
+    for (texts, wanted) in MORE {
+        let words = words(alloc, texts)?;
+        assert_eq!(rt; kind_of(job(alloc, &words)), wanted, "{texts:?}");
     }
     Ok(())
 }
@@ -182,11 +295,11 @@ fn addresses_are_numbers(rt: HostRuntime) -> Result<(), Fail> {
     let alloc = rt.alloc();
     for (text, number) in NUMBERS {
         let wanted = match number {
-            Some(number) => Some(Job::Dump(What::Raw(number))),
-            None => None,
+            Some(number) => Asked::Dump(What::Raw(number)),
+            None => Asked::Usage,
         };
         let words = words(alloc, &["dump", "--block", text])?;
-        assert_eq!(rt; job(&words), wanted, "{text}");
+        assert_eq!(rt; kind_of(job(alloc, &words)), wanted, "{text}");
     }
     Ok(())
 }
@@ -196,18 +309,13 @@ fn inodes_have_numbers_of_32_bits(rt: HostRuntime) -> Result<(), Fail> {
     let alloc = rt.alloc();
     for (text, number) in INODES {
         let (inode, bytes) = match number {
-            Some(ino) => (
-                Some(Job::Dump(What::Inode(ino))),
-                Some(Job::Dump(What::Cat(ino))),
-            ),
-            None => (None, None),
+            Some(ino) => (Asked::Dump(What::Inode(ino)), Asked::Dump(What::Cat(ino))),
+            None => (Asked::Usage, Asked::Usage),
         };
-        assert_eq!(rt; job(&words(alloc, &["dump", "-i", text])?), inode, "{text}");
-        assert_eq!(rt;
-            job(&words(alloc, &["dump", "--cat", text])?),
-            bytes,
-            "{text}"
-        );
+        let first = words(alloc, &["dump", "-i", text])?;
+        let second = words(alloc, &["dump", "--cat", text])?;
+        assert_eq!(rt; kind_of(job(alloc, &first)), inode, "{text}");
+        assert_eq!(rt; kind_of(job(alloc, &second)), bytes, "{text}");
     }
     Ok(())
 }
@@ -218,23 +326,18 @@ fn ranges_have_two_ends(rt: HostRuntime) -> Result<(), Fail> {
     for (text, range) in RANGES {
         let (nodes, segments, summaries) = match range {
             Some((first, last)) => (
-                Some(Job::Dump(What::Nat(first, last))),
-                Some(Job::Dump(What::Sit(first, last))),
-                Some(Job::Dump(What::Ssa(first, last))),
+                Asked::Dump(What::Nat(first, last)),
+                Asked::Dump(What::Sit(first, last)),
+                Asked::Dump(What::Ssa(first, last)),
             ),
-            None => (None, None, None),
+            None => (Asked::Usage, Asked::Usage, Asked::Usage),
         };
-        assert_eq!(rt; job(&words(alloc, &["dump", "-n", text])?), nodes, "{text}");
-        assert_eq!(rt;
-            job(&words(alloc, &["dump", "-s", text])?),
-            segments,
-            "{text}"
-        );
-        assert_eq!(rt;
-            job(&words(alloc, &["dump", "-a", text])?),
-            summaries,
-            "{text}"
-        );
+        let first = words(alloc, &["dump", "-n", text])?;
+        let second = words(alloc, &["dump", "-s", text])?;
+        let third = words(alloc, &["dump", "-a", text])?;
+        assert_eq!(rt; kind_of(job(alloc, &first)), nodes, "{text}");
+        assert_eq!(rt; kind_of(job(alloc, &second)), segments, "{text}");
+        assert_eq!(rt; kind_of(job(alloc, &third)), summaries, "{text}");
     }
     Ok(())
 }

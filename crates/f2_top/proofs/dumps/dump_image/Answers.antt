@@ -79,7 +79,7 @@ returns-in-Ok-clause-lines g c = λ had told image told'.
     ([], refl, c.dump.ensures.range.absent c.in-Err-NoSuchNode.ino (cc) ∙ told ∙ ap (λ (l : List ℕ). Some l) (sym (append-nil had)))
 
 -- an image that can't be mounted has no lines
-unmounted : (lines : List ℕ) (refusal : MountRefusal) → IsFront lines (mount_answer refusal) []
+unmounted : (lines : List ℕ) (refusal : MountRefusal) → IsFront lines lines (mount_answer refusal) []
 unmounted lines mount.NoSuper = refl
 unmounted lines (mount.Unsupported bits) = refl
 unmounted lines (mount.TooLarge blocks) = refl
@@ -93,6 +93,6 @@ unmounted lines mount.NoMemory = (0, refl)
 pub returns-clause-lines : goal.returns-clause-lines
 returns-clause-lines g c = λ had told image told'. (
   [],
-  subst (λ a. IsFront (mounted_lines c.args.what image (mounted (g.D.Disk.state c.args.disk.now).size image)) a []) (sym c.refused.ensures) (unmounted _ c.in-Err.refusal),
+  subst (λ a. let lines = mounted_lines c.args.what image (mounted (g.D.Disk.state c.args.disk.now).size image) in IsFront lines lines a []) (sym c.refused.ensures) (unmounted _ c.in-Err.refusal),
   told ∙ ap (λ (l : List ℕ). Some l) (sym (append-nil had)),
 )
