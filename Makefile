@@ -1,14 +1,15 @@
 PREFIX = /usr/local
 PROGRAM = crates/f2_tools/out/f2_tools
+MEASURE = crates/f2_measure/out/f2_measure
 SOURCES = crates.txt $(shell find crates -name out -prune -o -type f \( -name '*.rt' -o -name '*.antt' \) -print)
 
 .PHONY: build demo test bench install
 
-build: $(PROGRAM)
+build: $(PROGRAM) $(MEASURE)
 
 # `rt run` proves what it builds, and ends as the program does: with status 16, since it is given no words.
-$(PROGRAM): $(SOURCES)
-	cd crates/f2_tools && rt run >/dev/null; [ $$? -eq 16 ]
+$(PROGRAM) $(MEASURE): $(SOURCES)
+	cd $(@D)/.. && rt run >/dev/null; [ $$? -eq 16 ]
 	touch $@
 
 demo: build
@@ -22,6 +23,8 @@ bench: build
 	bench/dump_cp.py
 	bench/dump_tables.py
 	bench/dump_files.py
+	bench/libraries.py
+	bench/new_images.py
 
 install: build
 	install -D -m 755 $(PROGRAM) $(DESTDIR)$(PREFIX)/bin/f2tools
