@@ -1,9 +1,9 @@
 -- The checkpoint: its packs, when one is valid, and which one counts.
-use Rattle.std.specs.Prelude.{ℕ, ◌+◌, ◌-◌, ◌*◌, ◌/◌, Bool, not, ◌||◌, ◌&&◌, ◌==◌, nat_le, nat_lt, if◌then◌else◌, List, [], ◌∷◌, map, flat_map, sum_by, min, Option, Some, None, unwrap_or, is_some}
-use Rattle.std.specs.List.{list_all, range_with_len}
+use Rattle.std.specs.Prelude.{ℕ, ◌+◌, ◌-◌, ◌*◌, ◌/◌, ◌^◌, Bool, not, ◌||◌, ◌&&◌, ◌==◌, nat_le, nat_lt, if◌then◌else◌, List, [], ◌∷◌, map, flat_map, sum_by, min, Option, Some, None, unwrap_or, is_some}
+use Rattle.std.specs.List.{list_all, list_any, range_with_len}
 use Rattle.f2_bytes.specs.declared.layout.Layout.{Layout}
 use Rattle.f2_bytes.specs.declared.fields.Field.{Field}
-use Rattle.f2_bytes.specs.Bytes.{Block, Image, block_at, bytes_at, number_at, word, has_bit}
+use Rattle.f2_bytes.specs.Bytes.{Block, Image, block_at, bytes_at, number_at, word, has_bit, count_below}
 use Rattle.f2_bytes.specs.Checksum.{is_sealed}
 use Rattle.f2_bytes.specs.Fields.{field, field_at}
 use Rattle.f2_bytes.specs.Superblock.{layout}
@@ -114,6 +114,10 @@ log_numbers = 0 ∷ 1 ∷ 2 ∷ 3 ∷ 4 ∷ 5 ∷ []
 abbrev pub data_log_numbers : List ℕ
 data_log_numbers = 0 ∷ 1 ∷ 2 ∷ []
 
+-- whether a log of the checkpoint fills this segment
+abbrev pub is_log_segment : Block → ℕ → Bool
+is_log_segment head segment = list_any (λ t. (log head t).segment == segment) log_numbers
+
 -- how many summary entries of data log t the compact form holds
 abbrev pub compact_count : Block → ℕ → ℕ
 compact_count head t = if (log head t).allocation == 1 then 512 else (log head t).offset
@@ -216,3 +220,7 @@ orphans_in b = map (word b) (range_with_len 0 (min (number_at b 4088 4) 1020))
 unfoldable pub orphans : Pack → List ℕ
 orphans pack =
     if has_orphans (pack_head pack) then flat_map (λ j. orphans_in (pack j)) (range_with_len 1 (pack_start_sum (pack_head pack) - 1)) else []
+
+-- how many inodes of an image are orphans, each counted once
+unfoldable pub orphan_count : Image → ℕ
+orphan_count image = count_below (2 ^ 32) (λ ino. list_any (λ x. x == ino) (orphans (pack image)))

@@ -1,6 +1,7 @@
 pub mod Bits
 pub mod Buckets
 pub mod Bytes
+pub mod Check
 pub mod Checkpoint
 pub mod Checksum
 pub mod Directory

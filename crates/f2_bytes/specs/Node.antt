@@ -1,5 +1,5 @@
 -- Nodes: the footer, the fields of an inode, and where the blocks of a file have their addresses.
-use Rattle.std.specs.Prelude.{ℕ, suc, ◌+◌, ◌-◌, ◌*◌, ◌/◌, ◌%◌, ◌^◌, Bool, not, ◌||◌, ◌&&◌, ◌==◌, nat_le, nat_lt, if◌then◌else◌, List, [], ◌∷◌, position, Option, Some, None, option_map}
+use Rattle.std.specs.Prelude.{ℕ, suc, ◌+◌, ◌-◌, ◌*◌, ◌/◌, ◌%◌, ◌^◌, Bool, not, ◌||◌, ◌&&◌, ◌==◌, nat_le, nat_lt, if◌then◌else◌, List, [], ◌∷◌, position, Option, Some, None, option_map, is_some}
 use Rattle.f2_bytes.specs.declared.fields.Field.{Field}
 use Rattle.f2_bytes.specs.Bytes.{Block, bytes_at, word, has_bit}
 use Rattle.f2_bytes.specs.Fields.{field, field_at}
@@ -54,8 +54,30 @@ links b = inode_row b 5
 abbrev pub size : Block → ℕ
 size b = inode_row b 6
 
+-- the number of blocks that the file takes, its nodes among them
+abbrev pub blocks : Block → ℕ
+blocks b = inode_row b 7
+
+-- how many levels of its buckets a directory uses
+abbrev pub current_depth : Block → ℕ
+current_depth b = inode_row b 15
+
 abbrev pub xattr_nid : Block → ℕ
 xattr_nid b = inode_row b 16
+
+-- by how much the number of buckets of a directory is raised
+abbrev pub dir_level : Block → ℕ
+dir_level b = inode_row b 20
+
+-- the extent: its first block in the file, the address of that block, and its length
+abbrev pub ext_fofs : Block → ℕ
+ext_fofs b = inode_row b 21
+
+abbrev pub ext_addr : Block → ℕ
+ext_addr b = inode_row b 22
+
+abbrev pub ext_len : Block → ℕ
+ext_len b = inode_row b 23
 
 -- nid j of the five in an inode, and address word j
 abbrev pub inode_nid : Block → ℕ → ℕ
@@ -73,9 +95,16 @@ has_inline_data b = has_bit (inline_flags b) 1
 abbrev pub has_inline_dentry : Block → Bool
 has_inline_dentry b = has_bit (inline_flags b) 2
 
+-- a directory may do without `.` and `..`
+abbrev pub has_inline_dots : Block → Bool
+has_inline_dots b = has_bit (inline_flags b) 4
+
 -- the type of a file, as directory entries number it: 1 regular, 2 directory, 3 character, 4 block, 5 fifo, 6 socket, 7 symlink
 abbrev pub type_of_mode : ℕ → Option ℕ
 type_of_mode m = option_map suc (position (λ high. high == m / 4096) (8 ∷ 4 ∷ 2 ∷ 6 ∷ 1 ∷ 12 ∷ 10 ∷ []))
+
+abbrev pub has_type : Block → Bool
+has_type b = is_some (type_of_mode (mode b))
 
 abbrev pub is_regular : Block → Bool
 is_regular b = mode b / 4096 == 8
@@ -112,6 +141,10 @@ inline_area b = bytes_at b 364 (inline_length b)
 abbrev pub block_limit : ℕ → ℕ
 block_limit n = n + 2 * 1018 + 2 * 1018 ^ 2 + 1018 ^ 3
 
+-- no file has a block with this number or a greater one
+unfoldable pub most_blocks : ℕ
+most_blocks = block_limit 923
+
 -- the node offset and the place in that node of block k of a file, in an inode with n address words
 unfoldable pub locate : ℕ → ℕ → Option (ℕ × ℕ)
 locate k n =
@@ -130,6 +163,14 @@ locate k n =
 -- the offset that all nodes in the tree of a file are below
 unfoldable pub offset_limit : ℕ
 offset_limit = 1039384
+
+-- the offset of the attribute node
+abbrev pub attribute_offset : ℕ
+attribute_offset = 0x1FFFFFFF
+
+-- a node at this offset holds addresses of blocks, and not nids
+abbrev pub is_direct : ℕ → Bool
+is_direct o = nat_lt 0 o && nat_lt o offset_limit && not (o == 3) && not (o == 1022) && not (o == 2041) && not (nat_le 2042 o && ((o - 2042) % 1019 == 0))
 
 -- the offset of the node above the one at this offset, and the place there that names it
 unfoldable pub parent_of : ℕ → Option (ℕ × ℕ)

@@ -1,7 +1,8 @@
 -- The segment table: for each main segment the type of its blocks, and which of them are valid.
-use Rattle.std.specs.Prelude.{ℕ, ◌+◌, ◌*◌, ◌/◌, ◌%◌, ◌==◌, if◌then◌else◌, List, find, Option, option_map, unwrap_or}
+use Rattle.std.specs.Prelude.{ℕ, ◌+◌, ◌*◌, ◌/◌, ◌%◌, Bool, ◌==◌, if◌then◌else◌, List, find, Option, option_map, unwrap_or}
+use Rattle.std.specs.List.{list_any}
 use Rattle.f2_bytes.specs.declared.layout.Layout.{Layout}
-use Rattle.f2_bytes.specs.Bytes.{Block, Image, block_at}
+use Rattle.f2_bytes.specs.Bytes.{Block, Image, block_at, numbers_below}
 use Rattle.f2_bytes.specs.Bits.{bit_msb}
 use Rattle.f2_bytes.specs.Superblock.{layout}
 use Rattle.f2_bytes.specs.Checkpoint.{sit_bits, head, pack}
@@ -34,3 +35,11 @@ sit_journal image = sit_records (sit_journal_area (pack image))
 -- the segment table of an image
 unfoldable pub sit : Image → ℕ → SitEntry
 sit image segment = sit_entry (layout image) (sit_bits (head image)) (sit_journal image) image segment
+
+-- whether block number k of a segment is valid
+abbrev pub is_block_valid : Image → ℕ → ℕ → Bool
+is_block_valid image segment k = bit_msb (sit image segment).map k
+
+-- whether a segment has a valid block
+abbrev pub has_valid_block : Image → ℕ → Bool
+has_valid_block image segment = list_any (is_block_valid image segment) (numbers_below 512)

@@ -3,7 +3,7 @@ use Rattle.std.specs.Prelude.{ℕ, zero, suc, ◌-◌, ◌^◌, Bool, false, ◌
 use Rattle.std.specs.Option.{option_map_or}
 use Rattle.f2_bytes.specs.Bytes.{Block, Image, block_at}
 use Rattle.f2_bytes.specs.Superblock.{layout, is_main}
-use Rattle.f2_bytes.specs.Node.{child_nid, parent_of, slot_of, xattr_nid, is_directory}
+use Rattle.f2_bytes.specs.Node.{child_nid, parent_of, slot_of, has_slots, xattr_nid, is_directory}
 use Rattle.f2_bytes.specs.Directory.{Item, directory_items}
 use Rattle.f2_bytes.specs.NodeAddressTable.{nat}
 use Rattle.f2_bytes.specs.Object.{Piece, hole, reserved, stored, Object, FileTree, object_of, gives_name}
@@ -30,6 +30,21 @@ node_within (suc n) image ino offset =
 -- the node of a file at an offset: no node stands deeper than three steps
 abbrev pub tree_node : Image → ℕ → ℕ → Option Block
 tree_node image ino offset = node_within 3 image ino offset
+
+-- the node that is to hold the nid of a node: none such stands deeper than two steps
+abbrev pub node_above : Image → ℕ → ℕ → Option Block
+node_above image ino offset = node_within 2 image ino offset
+
+-- whether the inode has nid slots
+abbrev pub has_nid_slots : Image → ℕ → Bool
+has_nid_slots image ino = option_map_or has_slots (read_node image ino) false
+
+-- the nid in the nid slot with this offset, 0 where the node above is missing
+unfoldable pub nid_slot : Image → ℕ → ℕ → ℕ
+nid_slot image ino offset =
+    if has_nid_slots image ino
+    then option_map_or (λ spot. option_map_or (nid_in spot) (node_above image ino spot.0) 0) (parent_of offset) 0
+    else 0
 
 -- the address of block k of a file, 0 where a node is missing
 unfoldable pub tree_slot : Image → ℕ → ℕ → ℕ
