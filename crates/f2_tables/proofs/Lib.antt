@@ -1,3 +1,4 @@
+pub mod Appends
 pub mod FirstRecords
 pub mod Least
 pub mod Marks

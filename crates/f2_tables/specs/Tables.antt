@@ -9,7 +9,7 @@ use Rattle.f2_bytes.specs.Bytes.{Block, Image, numbers_below}
 use Rattle.f2_bytes.specs.Superblock.{IsInOrder}
 use Rattle.f2_bytes.specs.Journal.{NatEntry, NatRecord, SitEntry, SitRecord, FitsSitEntry}
 use Rattle.f2_bytes.specs.NodeAddressTable.{nat_entry_in, nat_table_entry, nat_journal_entry, nid_limit}
-use Rattle.f2_bytes.specs.SegmentTable.{sit_table_entry, sit_journal_entry}
+use Rattle.f2_bytes.specs.SegmentTable.{sit_entry_in, sit_table_entry, sit_journal_entry}
 use Rattle.f2_sum.specs.Records.{nat_entry as format_nat_entry, sit_entry as format_sit_entry}
 use Rattle.f2_sum.specs.declared.records.NatEntry.{NatEntry as HeldNatEntry}
 use Rattle.f2_sum.specs.declared.records.SitEntry.{SitEntry as HeldSitEntry}
@@ -68,6 +68,9 @@ pub record SetsSit (segment : ℕ) (e : SitEntry) (old new : SitTable) : Type 0 
 -- the entry of a number in a table whose block for it is this one
 abbrev pub nat_over : NatTable → Block → ℕ → NatEntry
 nat_over t b nid = unwrap_or (nat_newer t nid) (nat_entry_in b nid)
+
+abbrev pub sit_over : SitTable → Block → ℕ → SitEntry
+sit_over t b segment = unwrap_or (sit_newer t segment) (sit_entry_in b segment)
 
 -- and in a table over an image
 abbrev pub nat_in : NatTable → Image → ℕ → NatEntry

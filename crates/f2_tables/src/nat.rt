@@ -1,6 +1,7 @@
 // The node address table.
-ghost use Rattle.std.specs.Prelude.{◌≡◌, ◌≢◌, ℕ, ◌≤◌, ◌<◌, ◌/◌, length, option_map, unwrap_or, is_some, true, Some, Err, IfOk, IfSome, OnOk, OnErr, IsErrOf};
-ghost use Rattle.f2_bytes.specs.Bytes.{Image, block_at};
+ghost use Rattle.std.specs.Prelude.{◌≡◌, ◌≢◌, ℕ, ◌≤◌, ◌<◌, ◌+◌, ◌-◌, ◌*◌, ◌/◌, ◌++◌, length, map, option_map, unwrap_or, is_some, true, Some, Err, IfOk, IfSome, OnOk, OnErr, IsErrOf};
+ghost use Rattle.std.specs.List.{range_with_len};
+ghost use Rattle.f2_bytes.specs.Bytes.{Image, block_at, numbers_below};
 ghost use Rattle.f2_bytes.specs.NodeAddressTable.{nid_limit, nat_block_address, nat_entry_in, nat_journal_entry, next_live};
 ghost use Rattle.f2_bytes.specs.Superblock.{IsInOrder};
 ghost use Rattle.f2_disk.specs.Disk.{Reads, Goes, Rose};
@@ -12,7 +13,7 @@ use crate::newer::Newer;
 use f2_bytes::{Layout, NoMemory, bit_msb};
 use f2_disk::{Block, Disk};
 use f2_sum::{NatEntry, NatJournal, nat_entry_at};
-use std::alloc::Global;
+use std::alloc::{AllocError, Global};
 use std::marker::Model;
 
 // How many entries a block has.
@@ -116,6 +117,47 @@ impl Nat {
         }
         let block = self.read(d, nid / ENTRIES)?;
         Ok(self.entry(&block, nid))
+    }
+
+    // Appends the entries of the nids from one on and below another, all of this block.
+    fn push_entries(
+        &self,
+        block: &Block,
+        from: u32,
+        to: u32,
+        into: &mut Vec<NatEntry>,
+    ) -> Result<(), AllocError>
+        requires { from ≤ to }
+        ensures entries { OnOk result (map nat_entry into.new.items ≡ map nat_entry into.old.items ++ map (nat_over self.now block.now) (range_with_len from (to - from))) }
+        ensures length { OnOk result (length into.new.items ≡ length into.old.items + (to - from)) }
+    {
+        for nid in from..to {
+            into.push(self.entry(block, nid))?;
+        }
+        Ok(())
+    }
+
+    /// The entries of all nids in ascending order, whether they are those of nodes or not. Each block of the table is read
+    /// once.
+    pub fn entries<D: Disk>(
+        &mut self,
+        alloc: Global,
+        d: &mut D,
+    ) -> Result<Vec<NatEntry>, TableRefusal>
+        requires lies { self.old.layout.blocks ≤ (D.state d.old).size }
+        ensures entries { IfOk result (λ entries. (image : Image) → (D.state d.old).told ≡ Some image → map nat_entry entries.items ≡ map (nat_in self.old image) (numbers_below (nid_limit self.old.layout))) }
+        ensures length { IfOk result (λ entries. length entries.items ≡ nid_limit self.old.layout) }
+        ensures table { self.new ≡ self.old }
+        ensures reads { Reads (D.state d.old) (D.state d.new) }
+        ensures goes { Goes (D.state d.old) (D.state d.new) }
+        ensures fault { IsErrOf result TableRefusal.DiskFault → Rose (D.state d.old).faults (D.state d.new).faults }
+    {
+        let mut entries = Vec::with_capacity(alloc, self.limit() as usize)?;
+        for k in 0..self.layout.nat_half {
+            let block = self.read(d, k)?;
+            self.push_entries(&block, ENTRIES * k, ENTRIES * (k + 1), &mut entries)?;
+        }
+        Ok(entries)
     }
 
     // The least nid from one on and below another, all of this block, that has an address.

@@ -32,3 +32,11 @@ impl<T: Drop> From<AllocFailed<T>> for TableRefusal {
         TableRefusal::NoMemory
     }
 }
+
+impl From<AllocError> for TableRefusal {
+    ghost from_gives = { λ _ e. e ≡ MemoryShort };
+
+    fn from(_: AllocError) -> Self {
+        TableRefusal::NoMemory
+    }
+}

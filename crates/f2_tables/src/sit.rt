@@ -1,19 +1,20 @@
 // The segment table.
-ghost use Rattle.std.specs.Prelude.{◌≡◌, ◌≢◌, ◌≤◌, ◌<◌, ◌/◌, ℕ, length, option_map, is_some, true, Some, Err, IfOk, OnOk, OnErr, IsErrOf};
-ghost use Rattle.f2_bytes.specs.Bytes.{Image, block_at};
+ghost use Rattle.std.specs.Prelude.{◌≡◌, ◌≢◌, ◌≤◌, ◌<◌, ◌+◌, ◌-◌, ◌/◌, ◌++◌, ℕ, length, map, All, option_map, is_some, true, Some, Err, IfOk, OnOk, OnErr, IsErrOf};
+ghost use Rattle.std.specs.List.{range_with_len};
+ghost use Rattle.f2_bytes.specs.Bytes.{Image, block_at, numbers_below};
 ghost use Rattle.f2_bytes.specs.Journal.{SitEntry as FormatSitEntry, FitsSitEntry};
 ghost use Rattle.f2_bytes.specs.SegmentTable.{sit_block_address, sit_journal_entry};
 ghost use Rattle.f2_bytes.specs.Superblock.{IsInOrder};
 ghost use Rattle.f2_disk.specs.Disk.{Reads, Goes, Rose};
 ghost use Rattle.f2_sum.specs.Records.{sit_entry};
-ghost use Rattle.f2_tables.specs.Tables.{value_at, sit_newer, IsSit, OpensSit, SetsSit, sit_in, sit_dirty};
+ghost use Rattle.f2_tables.specs.Tables.{value_at, sit_newer, IsSit, OpensSit, SetsSit, sit_over, sit_in, sit_dirty};
 
 use crate::TableRefusal;
 use crate::newer::Newer;
 use f2_bytes::{Layout, NoMemory, bit_msb};
 use f2_disk::{Block, Disk};
 use f2_sum::{SitEntry, SitJournal, sit_entry_at};
-use std::alloc::Global;
+use std::alloc::{AllocError, Global};
 use std::marker::Model;
 
 // How many entries a block has.
@@ -92,6 +93,17 @@ impl Sit {
         Ok(block)
     }
 
+    // The entry of a segment, whose block of the table is this one.
+    fn entry(&self, block: &Block, segno: u32) -> SitEntry
+        ensures entry { sit_entry result ≡ sit_over self.now block.now segno }
+        ensures fits { FitsSitEntry (sit_entry result) }
+    {
+        match self.newer.get(segno) {
+            Some(entry) => entry,
+            None => sit_entry_at(block.bytes(), 74 * (segno % ENTRIES) as usize),
+        }
+    }
+
     /// The entry of a main segment, counted from 0.
     pub fn get<D: Disk>(&mut self, d: &mut D, segno: u32) -> Result<SitEntry, TableRefusal>
         requires segment { segno < self.old.layout.segments }
@@ -109,7 +121,51 @@ impl Sit {
             return Ok(entry);
         }
         let block = self.read(d, segno / ENTRIES)?;
-        Ok(sit_entry_at(block.bytes(), 74 * (segno % ENTRIES) as usize))
+        Ok(self.entry(&block, segno))
+    }
+
+    // Appends the entries of the segments from one on and below another, all of this block.
+    fn push_entries(
+        &self,
+        block: &Block,
+        from: u32,
+        to: u32,
+        into: &mut Vec<SitEntry>,
+    ) -> Result<(), AllocError>
+        requires { from ≤ to }
+        ensures entries { OnOk result (map sit_entry into.new.items ≡ map sit_entry into.old.items ++ map (sit_over self.now block.now) (range_with_len from (to - from))) }
+        ensures length { OnOk result (length into.new.items ≡ length into.old.items + (to - from)) }
+        ensures fits { OnOk result (All (λ e. FitsSitEntry (sit_entry e)) into.old.items → All (λ e. FitsSitEntry (sit_entry e)) into.new.items) }
+    {
+        for segno in from..to {
+            into.push(self.entry(block, segno))?;
+        }
+        Ok(())
+    }
+
+    /// The entries of all main segments in order. Each block of the table that has one of them is read once.
+    pub fn entries<D: Disk>(
+        &mut self,
+        alloc: Global,
+        d: &mut D,
+    ) -> Result<Vec<SitEntry>, TableRefusal>
+        requires lies { self.old.layout.blocks ≤ (D.state d.old).size }
+        ensures entries { IfOk result (λ entries. (image : Image) → (D.state d.old).told ≡ Some image → map sit_entry entries.items ≡ map (sit_in self.old image) (numbers_below self.old.layout.segments)) }
+        ensures length { IfOk result (λ entries. length entries.items ≡ self.old.layout.segments) }
+        ensures fits { IfOk result (λ entries. All (λ e. FitsSitEntry (sit_entry e)) entries.items) }
+        ensures table { self.new ≡ self.old }
+        ensures reads { Reads (D.state d.old) (D.state d.new) }
+        ensures goes { Goes (D.state d.old) (D.state d.new) }
+        ensures fault { IsErrOf result TableRefusal.DiskFault → Rose (D.state d.old).faults (D.state d.new).faults }
+    {
+        let segments = self.layout.segments;
+        let mut entries = Vec::with_capacity(alloc, segments as usize)?;
+        for k in 0..segments.div_ceil(ENTRIES) {
+            let block = self.read(d, k)?;
+            let end = segments.min(ENTRIES * (k + 1));
+            self.push_entries(&block, ENTRIES * k, end, &mut entries)?;
+        }
+        Ok(entries)
     }
 
     /// The numbers of the table's blocks that have an entry which stands in the journal or was set, in ascending order.

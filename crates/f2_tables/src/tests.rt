@@ -202,6 +202,49 @@ fn segments_are_read_likewise(rt: HostRuntime) -> Result<(), Fail> {
 }
 
 #[test]
+fn entries_are_those_of_each_number(rt: HostRuntime) -> Result<(), Fail> {
+    let alloc = rt.alloc();
+    let mut disk = nat_disk(alloc, &[])?;
+    let mut nat = nat_table(alloc)?;
+    let entries = nat.entries(alloc, &mut disk)?;
+    // 4 writes; then each block of the table once.
+    assert_eq!(rt; disk.calls(), 4 + 512);
+    assert_eq!(rt; entries.len(), 232_960);
+    for nid in [3, 4, 5, 455, 456, 909, 232_959] {
+        if nid < 232_960 {
+            let entry = nat.get(&mut disk, nid);
+            assert_eq!(rt; entries.get(nid as usize).copied(), entry.ok(), "nid {nid}");
+        }
+    }
+    Ok(())
+}
+
+#[test]
+fn entries_are_those_of_each_segment(rt: HostRuntime) -> Result<(), Fail> {
+    let alloc = rt.alloc();
+    let mut block = Block::zeros();
+    put_sit(&mut block, 23, segment(512));
+    put_sit(&mut block, 2, segment(1));
+    let mut disk = disk(alloc, &[], &[(1536 + 512, block)])?;
+    let mut sit = sit_table(alloc)?;
+    let entries = sit.entries(alloc, &mut disk)?;
+    // A write; then the one block that has the entries of the 24 segments.
+    assert_eq!(rt; disk.calls(), 1 + 1);
+    assert_eq!(rt; entries.len(), 24);
+    for segno in [0, 1, 2, 23] {
+        if segno < 24 {
+            let entry = sit.get(&mut disk, segno);
+            assert_eq!(rt;
+                entries.get(segno as usize).copied(),
+                entry.ok(),
+                "segment {segno}"
+            );
+        }
+    }
+    Ok(())
+}
+
+#[test]
 fn faults_leave_the_table(rt: HostRuntime) -> Result<(), Fail> {
     let alloc = rt.alloc();
     let mut disk = nat_disk(alloc, &[5, 7, 8])?;

@@ -1,6 +1,7 @@
 // What is read of a mounted image.
-ghost use Rattle.std.specs.Prelude.{◌≡◌, ◌≤◌, ◌<◌, Some, IfOk, IfSome, IsErrOf};
-ghost use Rattle.f2_bytes.specs.Bytes.{Image};
+ghost use Rattle.std.specs.Prelude.{◌≡◌, ◌≤◌, ◌<◌, length, map, All, Some, IfOk, IfSome, IsErrOf};
+ghost use Rattle.f2_bytes.specs.Bytes.{Image, numbers_below};
+ghost use Rattle.f2_bytes.specs.Journal.{FitsSitEntry};
 ghost use Rattle.f2_bytes.specs.NodeAddressTable.{nid_limit, image_nat_entry, next_live};
 ghost use Rattle.f2_bytes.specs.SegmentTable.{sit};
 ghost use Rattle.f2_bytes.specs.Superblock.{layout};
@@ -70,6 +71,21 @@ impl Mount {
         Ok(self.nat.get(d, nid)?)
     }
 
+    /// The entries of all numbers below `nid_limit` in ascending order, whether they are those of nodes or not. Each block
+    /// of the table is read once.
+    pub fn nat_entries<D: Disk>(&mut self, d: &mut D) -> Result<Vec<NatEntry>, ViewRefusal>
+        requires lies { (layout_in self.old).blocks ≤ (D.state d.old).size }
+        ensures entries { IfOk result (λ entries. (image : Image) → (D.state d.old).told ≡ Some image → IsMountOf image self.old
+            → map nat_entry entries.items ≡ map (image_nat_entry image) (numbers_below (nid_limit (layout_in self.old)))) }
+        ensures length { IfOk result (λ entries. length entries.items ≡ nid_limit (layout_in self.old)) }
+        ensures mount { self.new ≡ self.old }
+        ensures reads { Reads (D.state d.old) (D.state d.new) }
+        ensures goes { Goes (D.state d.old) (D.state d.new) }
+        ensures fault { IsErrOf result ViewRefusal.DiskFault → Rose (D.state d.old).faults (D.state d.new).faults }
+    {
+        Ok(self.nat.entries(self.alloc, d)?)
+    }
+
     /// The entry of a main segment, counted from 0.
     pub fn sit_entry<D: Disk>(&mut self, d: &mut D, segno: u32) -> Result<SitEntry, ViewRefusal>
         requires segment { segno < (layout_in self.old).segments }
@@ -82,6 +98,21 @@ impl Mount {
         ensures fault { IsErrOf result ViewRefusal.DiskFault → Rose (D.state d.old).faults (D.state d.new).faults }
     {
         Ok(self.sit.get(d, segno)?)
+    }
+
+    /// The entries of all main segments in order. Each block of the table that has one of them is read once.
+    pub fn sit_entries<D: Disk>(&mut self, d: &mut D) -> Result<Vec<SitEntry>, ViewRefusal>
+        requires lies { (layout_in self.old).blocks ≤ (D.state d.old).size }
+        ensures entries { IfOk result (λ entries. (image : Image) → (D.state d.old).told ≡ Some image → IsMountOf image self.old
+            → map sit_entry entries.items ≡ map (sit image) (numbers_below (layout_in self.old).segments)) }
+        ensures length { IfOk result (λ entries. length entries.items ≡ (layout_in self.old).segments) }
+        ensures fits { IfOk result (λ entries. All (λ e. FitsSitEntry (sit_entry e)) entries.items) }
+        ensures mount { self.new ≡ self.old }
+        ensures reads { Reads (D.state d.old) (D.state d.new) }
+        ensures goes { Goes (D.state d.old) (D.state d.new) }
+        ensures fault { IsErrOf result ViewRefusal.DiskFault → Rose (D.state d.old).faults (D.state d.new).faults }
+    {
+        Ok(self.sit.entries(self.alloc, d)?)
     }
 
     /// The least number of a node from `from` on, if there is one.

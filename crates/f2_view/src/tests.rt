@@ -1,4 +1,4 @@
-// The entries of directories laid out in memory.
+// The tables and the entries of directories laid out in memory.
 ghost use Rattle.std.specs.Prelude.{◌≡◌, IfOk};
 ghost use Rattle.f2_disk.specs.Fakes.{memory_of};
 
@@ -314,5 +314,24 @@ fn names_that_stand_in_the_inode_are_entries(rt: HostRuntime) -> Result<(), Fail
     for ino in [0, 20, 21, 400] {
         assert!(rt; entries(&mut disk, &mut m, ino)?.is_empty(), "{ino}");
     }
+    Ok(())
+}
+
+#[test]
+fn the_tables_have_the_entries_of_each_number(rt: HostRuntime) -> Result<(), Fail> {
+    let alloc = rt.alloc();
+    let mut disk = image(alloc)?;
+    let mut m = mount(alloc, &mut disk)?;
+    let l = m.layout();
+    assert_eq!(rt; (l.blocks, l.segments, m.nid_limit()), (16384, 24, 232_960));
+    let nodes = m.nat_entries(&mut disk)?;
+    assert_eq!(rt; nodes.len(), 232_960);
+    assert_eq!(rt; nodes.get(12).map(|entry| entry.addr), Some(5009));
+    let node = m.nat_entry(&mut disk, 21)?;
+    assert_eq!(rt; nodes.get(21).copied(), Some(node));
+    let segments = m.sit_entries(&mut disk)?;
+    assert_eq!(rt; segments.len(), 24);
+    let segment = m.sit_entry(&mut disk, 23)?;
+    assert_eq!(rt; segments.get(23).copied(), Some(segment));
     Ok(())
 }
