@@ -2,7 +2,7 @@
 use f2_dump::What;
 use f2_mkfs::Label;
 
-/// What a run is to do.
+/// What a run is to do, as words name it.
 #[derive(Clone, Copy)]
 pub enum Job {
     /// `fsck --super`: rewrite the superblock copy that is bad or disagrees.
@@ -13,6 +13,7 @@ pub enum Job {
     Mkfs {
         /// Its length in sectors of 512 bytes; the whole disk where none is given.
         sectors: Option<u64>,
+        /// Its volume name; empty where none is given.
         label: Label,
         /// The uuid of the run where none is given.
         uuid: Option<[u8; 16]>,

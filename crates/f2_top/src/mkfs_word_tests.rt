@@ -181,6 +181,106 @@ const VALUES: [(&[&str], Option<Wanted>); 34] = [
     (&["mkfs", "-f\u{e9}"], None),
 ];
 
+// What the tables before lack: each spelling of each option, and wrong ones.
+const FORMS: [(&[&str], Option<Wanted>); 42] = [
+    (
+        &["mkfs", "-l", "x"],
+        Some((None, &[120], None, None, 0, false)),
+    ),
+    (
+        &["mkfs", "-l=x"],
+        Some((None, &[120], None, None, 0, false)),
+    ),
+    (&["mkfs", "-l="], Some((None, &[], None, None, 0, false))),
+    (
+        &["mkfs", "-l", "-"],
+        Some((None, &[45], None, None, 0, false)),
+    ),
+    (
+        &["mkfs", "-U=00112233-4455-6677-8899-aabbccddeeff"],
+        Some((None, &[], Some(ID), None, 0, false)),
+    ),
+    (&["mkfs", "-T7"], Some((None, &[], None, Some(7), 0, false))),
+    (
+        &["mkfs", "-T", "0x10"],
+        Some((None, &[], None, Some(16), 0, false)),
+    ),
+    (
+        &["mkfs", "-O", "sb_checksum"],
+        Some((None, &[], None, None, 0x800, false)),
+    ),
+    (
+        &["mkfs", "-O=lost_found"],
+        Some((None, &[], None, None, 0x200, false)),
+    ),
+    (
+        &["mkfs", "-fT", "7"],
+        Some((None, &[], None, Some(7), 0, true)),
+    ),
+    (
+        &["mkfs", "-fOsb_checksum"],
+        Some((None, &[], None, None, 0x800, true)),
+    ),
+    (&["mkfs", "--"], Some((None, &[], None, None, 0, false))),
+    (
+        &["mkfs", "4096", "--"],
+        Some((Some(4096), &[], None, None, 0, false)),
+    ),
+    (
+        &["mkfs", "-f", "--", "4096"],
+        Some((Some(4096), &[], None, None, 0, true)),
+    ),
+    (
+        &["mkfs", "0x1000", "-T", "7"],
+        Some((Some(4096), &[], None, Some(7), 0, false)),
+    ),
+    (
+        &["mkfs", "-l", "x", "4096", "-T", "7", "-f"],
+        Some((Some(4096), &[120], None, Some(7), 0, true)),
+    ),
+    (
+        &["mkfs", "-l", "4096"],
+        Some((None, &[52, 48, 57, 54], None, None, 0, false)),
+    ),
+    (
+        &["mkfs", "18446744073709551615"],
+        Some((Some(MOST), &[], None, None, 0, false)),
+    ),
+    (&["mkfs", "18446744073709551616"], None),
+    (&["mkfs", "-1"], None),
+    (&["mkfs", "-"], None),
+    (&["mkfs", "--", "-f"], None),
+    (&["mkfs", "4096", "4096"], None),
+    (&["mkfs", "--", "4096", "4096"], None),
+    (&["mkfs", "4096", "--", "4096"], None),
+    (&["mkfs", "-f4096"], None),
+    (&["mkfs", "-ff"], None),
+    (&["mkfs", "-f", "x"], None),
+    (&["mkfs", "--f"], None),
+    (&["mkfs", "--l=x"], None),
+    (&["mkfs", "-U="], None),
+    (
+        &["mkfs", "-U", "g0112233-4455-6677-8899-aabbccddeeff"],
+        None,
+    ),
+    (
+        &["mkfs", "-U", "0011223-34455-6677-8899-aabbccddeeff"],
+        None,
+    ),
+    (
+        &["mkfs", "-U", "00112233-4455-6677-8899-aabbccddeeff0"],
+        None,
+    ),
+    (&["mkfs", "-T="], None),
+    (&["mkfs", "-T", "7s"], None),
+    (&["mkfs", "-T7", "-T=7"], None),
+    (&["mkfs", "-O", ",lost_found"], None),
+    (&["mkfs", "-O", "lost_found sb_checksum"], None),
+    (&["mkfs", "-Olost_found", "-O=lost_found"], None),
+    (&["mkfs", "-x"], None),
+    (&["Mkfs"], None),
+];
+
 // The image that an answer asks for is this one.
 fn is_image(answer: &Result<Job, WordsRefusal>, wanted: &Option<Wanted>) -> bool {
     match (answer, wanted) {
@@ -223,6 +323,16 @@ fn words_of_mkfs_name_images(rt: HostRuntime) -> Result<(), Fail> {
 fn more_words_of_mkfs_name_images(rt: HostRuntime) -> Result<(), Fail> {
     let alloc = rt.alloc();
     for (texts, wanted) in VALUES {
+        let words = words(alloc, texts)?;
+        assert!(rt; is_image(&job(alloc, &words), &wanted), "{texts:?}");
+    }
+    Ok(())
+}
+
+#[test]
+fn options_of_mkfs_have_forms(rt: HostRuntime) -> Result<(), Fail> {
+    let alloc = rt.alloc();
+    for (texts, wanted) in FORMS {
         let words = words(alloc, texts)?;
         assert!(rt; is_image(&job(alloc, &words), &wanted), "{texts:?}");
     }

@@ -159,6 +159,49 @@ const MORE: [(&[&str], Asked); 57] = [
     (&["dump", "--block\n", "3"], Asked::Usage),
 ];
 
+// Two options together, and what the tables before lack: a value right behind its letter, and none behind `=`.
+const REST: [(&[&str], Asked); 39] = [
+    (&["dump", "--cp", "-s", "3~4"], Asked::Usage),
+    (&["dump", "--cp", "-a", "3~4"], Asked::Usage),
+    (&["dump", "--cp", "-i", "3"], Asked::Usage),
+    (&["dump", "--cp", "--block", "3"], Asked::Usage),
+    (&["dump", "--cp", "--cat", "3"], Asked::Usage),
+    (&["dump", "-n", "3~4", "-s", "3~4"], Asked::Usage),
+    (&["dump", "-n", "3~4", "-a", "3~4"], Asked::Usage),
+    (&["dump", "-n", "3~4", "-i", "3"], Asked::Usage),
+    (&["dump", "-n", "3~4", "--block", "3"], Asked::Usage),
+    (&["dump", "-n", "3~4", "--cat", "3"], Asked::Usage),
+    (&["dump", "-s", "3~4", "-a", "3~4"], Asked::Usage),
+    (&["dump", "-s", "3~4", "-i", "3"], Asked::Usage),
+    (&["dump", "-s", "3~4", "--block", "3"], Asked::Usage),
+    (&["dump", "-s", "3~4", "--cat", "3"], Asked::Usage),
+    (&["dump", "-a", "3~4", "--block", "3"], Asked::Usage),
+    (&["dump", "-a", "3~4", "--cat", "3"], Asked::Usage),
+    (&["dump", "-i", "3", "--block", "3"], Asked::Usage),
+    (&["dump", "-i", "3", "--cat", "3"], Asked::Usage),
+    (&["dump", "--block", "3", "--cat", "3"], Asked::Usage),
+    (&["dump", "-n3~4"], Asked::Dump(What::Nat(3, Some(4)))),
+    (&["dump", "-s0x3~-1"], Asked::Dump(What::Sit(3, None))),
+    (&["dump", "-a3~4"], Asked::Dump(What::Ssa(3, Some(4)))),
+    (&["dump", "-i3"], Asked::Dump(What::Inode(3))),
+    (&["dump", "-i0x3"], Asked::Dump(What::Inode(3))),
+    (&["dump", "--block", "0x3"], Asked::Dump(What::Raw(3))),
+    (&["dump", "--cat=0x3", "--"], Asked::Dump(What::Cat(3))),
+    (&["dump", "-n="], Asked::Usage),
+    (&["dump", "-i="], Asked::Usage),
+    (&["dump", "--block="], Asked::Usage),
+    (&["dump", "--cat="], Asked::Usage),
+    (&["dump", "-n", "-"], Asked::Usage),
+    (&["dump", "--cat", "-"], Asked::Usage),
+    (&["dump", "--block3"], Asked::Usage),
+    (&["dump", "-s", "3~4", "-s3~4"], Asked::Usage),
+    (&["dump", "-i3", "-i=3"], Asked::Usage),
+    (&["dump", "--cat", "3", "--cat=3"], Asked::Usage),
+    (&["dump", "-n", "3~4", "-x"], Asked::Usage),
+    (&["dump", "-cp"], Asked::Usage),
+    (&["dump", "-"], Asked::Usage),
+];
+
 // Numbers, and what they are.
 const NUMBERS: [(&str, Option<u64>); 42] = [
     ("0", Some(0)),
@@ -284,6 +327,16 @@ fn words_name_jobs(rt: HostRuntime) -> Result<(), Fail> {
 fn more_words_name_jobs(rt: HostRuntime) -> Result<(), Fail> {
     let alloc = rt.alloc();
     for (texts, wanted) in MORE {
+        let words = words(alloc, texts)?;
+        assert_eq!(rt; kind_of(job(alloc, &words)), wanted, "{texts:?}");
+    }
+    Ok(())
+}
+
+#[test]
+fn one_option_names_a_dump(rt: HostRuntime) -> Result<(), Fail> {
+    let alloc = rt.alloc();
+    for (texts, wanted) in REST {
         let words = words(alloc, texts)?;
         assert_eq!(rt; kind_of(job(alloc, &words)), wanted, "{texts:?}");
     }
