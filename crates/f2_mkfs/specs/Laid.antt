@@ -18,7 +18,8 @@ use Rattle.f2_mkfs.specs.declared.formatting.Options.{Options}
 abbrev pub zero_block : Block
 zero_block = replicate 4096 0
 
--- The checkpoint pack of a new image: pack 0, valid, with empty journals and both version bitmaps zero.
+-- The checkpoint pack of a new image: pack 0, valid, with empty journals, and zeros as the version bits of the node address
+-- table.
 pub record IsNewPack (g : Geometry) (directories : ℕ) (p : NewPack) : Type 0 where
   pub number : p.pack ≡ 0
   pub normal : IsNormal p.head

@@ -177,12 +177,12 @@ fn check<D: Disk>(d: &mut D, o: &Options) -> Result<Geometry, FormatRefusal>
     if o.force { Ok(g) } else { refuse_there(d, &g) }
 }
 
-/// Makes a new image, and syncs. The areas of the checkpoints and of the two tables are cleared first, and the superblock
-/// copies are written last, so that an image that is cut off doesn't count.
+/// Makes a new image, and syncs. `IsNew` says what is there afterwards: the superblock, the checkpoint, the inodes of the
+/// directories, and the tree. `DiskFault` may come after some writes; with each other refusal nothing was written.
 ///
-/// No block is written with the bytes that it has, so that a sparse file stays sparse. Bytes 0 to 1023 of blocks 0 and 1
-/// stay, and so do the summary area and the main area but for the blocks of the directories, their inodes, and the first
-/// block of the log of warm nodes, which is cleared.
+/// No clause says the rest. The areas of the checkpoints and of the two tables are cleared first, and the superblock copies are
+/// written last. A block that has its bytes already isn't written. Bytes 0 to 1023 of blocks 0 and 1 stay, and so do the summary
+/// area and the main area but for the blocks of the directories, their inodes, and the first block of the log of warm nodes.
 pub fn format<D: Disk>(alloc: Global, d: &mut D, o: &Options) -> Result<Geometry, FormatRefusal>
     requires features { HasProfile o.now.features }
     // Exactly which answer, where the disk tells its blocks; on every disk, the refusals for the size.
