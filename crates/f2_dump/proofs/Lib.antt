@@ -1,7 +1,11 @@
+pub mod DirectoryNames
 pub mod EntryLines
 pub mod FieldLines
 pub mod FileParts
 pub mod Heads
+pub mod Indents
 pub mod Nodes
 pub mod NodesRead
+pub mod Ordered
 pub mod Sending
+pub mod StackLines

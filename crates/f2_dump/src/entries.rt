@@ -8,8 +8,8 @@ use f2_sum::{NatEntry, SitEntry};
 use itoa::Buffer;
 use std::alloc::AllocError;
 
-// Appends a number in decimal digits, and then these bytes.
-pub(crate) fn push_decimal(text: &mut Vec<u8>, number: u64, after: &[u8]) -> Result<(), AllocError>
+/// Appends a number in decimal digits, and then these bytes.
+pub fn push_decimal(text: &mut Vec<u8>, number: u64, after: &[u8]) -> Result<(), AllocError>
     ensures digits { OnOk result (text.new.items ≡ text.old.items ++ decimal number ++ after.now) }
     ensures size { length text.new.items ≤ length text.old.items + 20 + length after.now }
 {

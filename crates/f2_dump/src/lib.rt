@@ -3,6 +3,7 @@
 
 mod blocks;
 mod contents;
+mod directories;
 mod dumping;
 mod entries;
 mod gathering;
@@ -10,13 +11,18 @@ mod hex;
 mod inodes;
 mod lines;
 mod names;
+mod pending;
+mod printing;
 mod ranges;
 mod summaries;
 mod tables;
+mod trees;
 mod walking;
 
 pub use dumping::{DumpRefusal, What, dump};
+pub use entries::push_decimal;
 pub use names::{checkpoint_names_are_known, inode_names_are_known};
+pub use trees::dump_tree;
 
 #[cfg(test)]
 mod tests;
