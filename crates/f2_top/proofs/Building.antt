@@ -1,14 +1,13 @@
 -- What clap's building makes of the command of a grammar.
-use Rattle.std.proofs.Common.{◌≡◌, ◌∙◌, ℕ, ◌&&◌, ◌||◌, Bool, true, false, not, cond, nat_eq, refl, sym, ap, ap₂, List, [], ◌∷◌, ◌++◌, map, Option, Some, None, is_some, arith, count_by}
+use Rattle.std.proofs.Common.{◌≡◌, ◌∙◌, ℕ, ◌&&◌, Bool, true, false, not, cond, nat_eq, refl, sym, ap, ap₂, List, [], ◌∷◌, ◌++◌, map, Option, Some, None, is_some, count_by}
 use Rattle.std.specs.List.{list_any, list_all}
 use Rattle.clap.specs.Walk.{Rule, is_early_multiple}
-use Rattle.clap.specs.Simple.{App, built, filled, filled_from, index_after, is_ready, is_ready_leaf, is_simple, wants_index, with_index}
+use Rattle.clap.specs.Simple.{App, built, filled, filled_from, index_after, is_ready, is_ready_leaf, wants_index, with_index}
 use Rattle.clap.specs.Faults.{is_free_app, is_simple_and_free}
 use Rattle.f2_top.specs.Words.{Text, Opt, Grammar}
 use Rattle.f2_top.specs.Parser.{AreSpelled, IsNamed, IsPlainName, IsSpelled, letter, long, alone, app_of_grammar, asked_rule}
-use Rattle.f2_top.proofs.Spelling.{differ, positional_rule, positional_rules, rule, rule_by, rules_of}
+use Rattle.f2_top.proofs.Spelling.{differ, positional_rules, rule, rule_by, rules_of}
 use Rattle.f2_top.proofs.Parsed.{built_app}
-use Rattle.std.proofs.lemmas.Bool.{eqb-true}
 
 filled_is : (name : Text) (b : Bool) → filled (asked_rule (record { name = name; has_value = b })) ≡ rule_by None name b
 filled_is name true = refl

@@ -1,16 +1,13 @@
 -- What clap's getters read, after the defaults, of the uses that were met.
-use Rattle.std.proofs.Common.{◌≡◌, ◌≢◌, ◌∙◌, ◌⊎◌, inl, inr, ℕ, ◌&&◌, ◌||◌, Bool, true, false, not, cond, refl, sym, ap, ap₂, subst, List, [], ◌∷◌, ◌++◌, map, length, codes, Option, Some, None, is_some, option_map, find, fold, true≢false, bytes_eq}
-use Rattle.std.specs.List.{list_any, list_all}
-use Rattle.std.specs.Option.{option_and_then, option_map_or}
+use Rattle.std.proofs.Common.{◌≡◌, ◌∙◌, ◌⊎◌, inl, inr, ℕ, ◌||◌, Bool, true, false, not, cond, refl, sym, ap, ap₂, subst, List, [], ◌∷◌, ◌++◌, codes, Option, Some, None, is_some, option_map, find, fold, true≢false, bytes_eq}
+use Rattle.std.specs.List.{list_all}
+use Rattle.std.specs.Option.{option_map_or}
 use Rattle.std.proofs.lemmas.Slice.Eq.{bytes_eq-Decides}
 use Rattle.std.proofs.lemmas.Bool.{and_parts}
-use Rattle.clap.specs.Walk.{Row, Rule, at_row, default_rows, first_of, has_row, more_values, one_of, reading_by, with_default, with_values}
-use Rattle.clap.specs.Simple.{Shape}
-use Rattle.clap.specs.Kinds.{Kinds, or_else}
-use Rattle.clap.specs.Faults.{defaults_fault}
+use Rattle.clap.specs.Walk.{Row, default_rows, has_row, more_values, reading_by, with_default}
 use Rattle.clap.specs.declared.parser.matches.ValueSource.TheVariants.{DefaultValue}
-use Rattle.f2_top.specs.Words.{Text, Opt, Use, is_used, value_in, uses_name}
-use Rattle.f2_top.proofs.Spelling.{found_in, found_name, rule, rule_by, rules_of, positional_rule, positional_rules}
+use Rattle.f2_top.specs.Words.{Text, Opt, Use, uses_name}
+use Rattle.f2_top.proofs.Spelling.{found_in, rule, rule_by, rules_of, positional_rules}
 use Rattle.f2_top.proofs.Used.{at_end, row, rows}
 
 abbrev pub lookup : Text → List Row → Option Row

@@ -1,7 +1,6 @@
 -- A list of features, one name at a time.
-use Rattle.std.proofs.Common.{◌≡◌, ◌∙◌, ◌<◌, ◌≤◌, ◌+◌, ℕ, zero, suc, Bool, true, false, cond, refl, sym, ap, arith, List, length, drop, bit_or, Option, Some, None, option_map, nat_lt, le-ltb, lt-ltb, length-drop}
+use Rattle.std.proofs.Common.{◌≡◌, ◌<◌, ◌≤◌, ◌+◌, ℕ, zero, suc, refl, arith, List, length, bit_or, Some, None, option_map, le-ltb, lt-ltb, length-drop}
 use Rattle.std.specs.List.{position_or_len, before_first, after_first}
-use Rattle.std.specs.Option.{option_and_then}
 use Rattle.f2_top.specs.Features.{feature_of, features_with, is_comma}
 
 pub one_more : (n : ℕ) (text : List ℕ) (bits bit : ℕ) → length text ≤ n → position_or_len is_comma text < length text → feature_of (before_first is_comma text) ≡ Some bit

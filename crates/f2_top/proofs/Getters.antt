@@ -1,6 +1,5 @@
 -- What clap's getters read is what the uses hold.
-use Rattle.std.proofs.Common.{◌≡◌, ◌∙◌, ℕ, ◌&&◌, ◌||◌, Bool, true, false, not, cond, refl, sym, ap, ap₂, subst, List, [], ◌∷◌, ◌++◌, codes, Option, Some, None, is_some, option_map, find, fold, slice_get, true≢false, bytes_eq}
-use Rattle.std.specs.List.{list_any, list_all}
+use Rattle.std.proofs.Common.{◌≡◌, ◌∙◌, ◌&&◌, ◌||◌, Bool, true, false, not, cond, refl, sym, ap, ap₂, List, [], ◌∷◌, ◌++◌, codes, Option, Some, None, is_some, option_map, find, fold, slice_get, true≢false, bytes_eq}
 use Rattle.std.specs.Option.{option_and_then, option_map_or}
 use Rattle.std.proofs.lemmas.Bool.{and_parts}
 use Rattle.std.proofs.lemmas.Slice.Eq.{bytes_eq-Decides}
@@ -10,11 +9,11 @@ use Rattle.clap.specs.Walk.{Row, first_of, one_of, reading_by, row_text, rows_of
 use Rattle.clap.specs.declared.parser.matches.ArgMatches.{ArgMatches}
 use Rattle.clap.proofs.WalkLemmas.{first_value-rows, one_text-rows}
 use Rattle.f2_top.specs.Words.{Text, Opt, Use, Grammar, is_used, uses_name, value_in}
-use Rattle.f2_top.specs.Parser.{AreSpelled, Holds, IsNamed, IsPlainName, is_flag_name, is_value_name}
-use Rattle.f2_top.proofs.Spelling.{found_in, found_name, rule_by, rules_of}
+use Rattle.f2_top.specs.Parser.{AreSpelled, Holds, IsNamed, IsPlainName}
+use Rattle.f2_top.proofs.Spelling.{found_in, rule_by, rules_of}
 use Rattle.f2_top.proofs.Used.{row, rows, text_of}
 use Rattle.f2_top.proofs.Known.{Known, all_of, in_all}
-use Rattle.f2_top.proofs.Defaults.{comes, is_no_flag, lookup, lookup-rows, stays, stays_none, unused}
+use Rattle.f2_top.proofs.Defaults.{comes, is_no_flag, lookup, lookup-rows, stays, stays_none}
 
 -- every option of this name has a value
 all_valued : (xs : List Opt) (name : Text) (o : Opt) → found_in xs name ≡ Some o → is_no_flag name xs ≡ true → o.has_value ≡ true

@@ -1,5 +1,5 @@
 -- The names of the tools' grammars, and the words whose job takes no memory.
-use Rattle.std.proofs.Common.{◌≡◌, ◌∙◌, ℕ, refl, sym, ap, ap₂, arith, List, [], ◌∷◌, codes, Some, true, false, bytes_eq, true≢false}
+use Rattle.std.proofs.Common.{◌≡◌, ◌∙◌, refl, sym, ap₂, arith, List, [], ◌∷◌, codes, Some, true, bytes_eq, true≢false}
 use Rattle.std.proofs.lemmas.Bool.{and_parts}
 use Rattle.std.proofs.lemmas.Slice.Eq.{bytes_eq-Decides}
 use Rattle.f2_top.specs.Parser.{IsNamed, letter, long}
@@ -8,7 +8,7 @@ use Rattle.f2_top.specs.Words.{Text, read_from}
 use Rattle.f2_top.specs.declared.jobs.Job.TheVariants.{Super}
 
 pub fsck_named : IsNamed fsck_grammar
-fsck_named = record { spelled = (long 115 (codes "uper") refl, tt); plain = tt }
+fsck_named = record { spelled = (long 115 (codes "uper") refl, (letter 116 refl refl (omega arith), tt)); plain = tt }
 
 pub dump_named : IsNamed dump_grammar
 dump_named = record {

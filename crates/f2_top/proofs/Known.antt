@@ -1,9 +1,9 @@
 -- The options that the grammar reads of words are its own.
-use Rattle.std.proofs.Common.{◌≡◌, ◌∙◌, Bool, true, false, cond, refl, sym, ap, subst, List, [], ◌∷◌, ◌++◌, Option, Some, None, is_some, option_map, true≢false, bytes_eq, nat_eq, codes, drop}
+use Rattle.std.proofs.Common.{◌≡◌, ◌∙◌, Bool, true, false, cond, refl, sym, ap, subst, List, [], ◌∷◌, ◌++◌, Option, Some, None, is_some, option_map, true≢false, bytes_eq, codes, drop}
 use Rattle.std.specs.List.{list_any, before_first, after_first}
 use Rattle.std.specs.Option.{option_and_then}
 use Rattle.std.proofs.lemmas.Slice.Eq.{bytes_eq-Decides}
-use Rattle.f2_top.specs.Words.{Text, Opt, Use, Grammar, Reading, between, waits, trailing, is_used, with_use, long_use, long_read, letter_use, letters_read, positional_use, word_read, value_read, next_read, ended, read_from, behind, is_equals, is_empty, is_dashed, is_long}
+use Rattle.f2_top.specs.Words.{Text, Opt, Use, Grammar, Reading, between, waits, trailing, is_used, with_use, long_use, letter_use, letters_read, positional_use, next_read, ended, read_from, behind, is_equals, is_empty, is_dashed, is_long}
 use Rattle.f2_top.specs.Parser.{AreSpelled, IsPlainName, alone}
 use Rattle.f2_top.proofs.Spelling.{found_in, found_name, other_name}
 use Rattle.f2_top.proofs.Used.{with_one}

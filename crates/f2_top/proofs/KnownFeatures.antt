@@ -1,5 +1,5 @@
 -- The words name no image with a feature that the tools don't read.
-use Rattle.std.proofs.Common.{◌≡◌, ◌⊎◌, inl, inr, ⊎_elim, ℕ, zero, suc, ◌-◌, ◌^◌, Bool, true, false, cond, List, [], ◌∷◌, Option, Some, None, refl, sym, subst, bit_and, bit_or}
+use Rattle.std.proofs.Common.{◌≡◌, ◌⊎◌, inl, inr, ℕ, zero, suc, ◌-◌, ◌^◌, Bool, true, false, cond, List, [], ◌∷◌, Option, Some, None, refl, sym, subst, bit_and, bit_or}
 use Rattle.std.specs.Prelude.{nat_lt, length, codes, bytes_eq, option_map, unwrap_or}
 use Rattle.std.specs.List.{position_or_len, before_first, after_first}
 use Rattle.std.specs.Option.{option_and_then}
@@ -8,7 +8,7 @@ use Rattle.f2_dump.specs.declared.dumping.What.{What}
 use Rattle.f2_mkfs.specs.Labels.{label_of}
 use Rattle.f2_super.specs.NewCopy.{HasProfile}
 use Rattle.f2_top.specs.declared.jobs.Job.{Job}
-use Rattle.f2_top.specs.declared.jobs.Job.TheVariants.{Super, Dump, Mkfs}
+use Rattle.f2_top.specs.declared.jobs.Job.TheVariants.{Check, Tree, Super, Dump, Mkfs}
 use Rattle.f2_top.specs.Features.{is_comma, feature_of, features_with}
 use Rattle.f2_top.specs.Jobs.{HasKnownFeatures}
 use Rattle.f2_top.specs.Numbers.{number_of, uuid_of}
@@ -111,16 +111,18 @@ mkfs_known sectors label uuid second features force job is =
     (λ id. then_known (λ time. option_map (λ bits. Mkfs n units id time bits force) (features_or_none features)) (if_given number_of second) job
     (λ time. made_known n units id time force (features_or_none features) job (known_list features))))) is
 
-super_known : (b : Bool) (job : Job) → cond b (Some Super) None ≡ Some job → HasKnownFeatures (Some job)
-super_known true job is = let same : Super ≡ job = cc in subst (λ (j : Job). HasKnownFeatures (Some j)) same tt
-super_known false job is = cc
+checked_known : (b c : Bool) (job : Job) → cond b (cond c None (Some Super)) (cond c (Some Tree) (Some Check)) ≡ Some job → HasKnownFeatures (Some job)
+checked_known true true job is = cc
+checked_known true false job is = let same : Super ≡ job = cc in subst (λ (j : Job). HasKnownFeatures (Some j)) same tt
+checked_known false true job is = let same : Tree ≡ job = cc in subst (λ (j : Job). HasKnownFeatures (Some j)) same tt
+checked_known false false job is = let same : Check ≡ job = cc in subst (λ (j : Job). HasKnownFeatures (Some j)) same tt
 
 dumped_known : (what : Option What) (job : Job) → option_map (λ w. Dump w) what ≡ Some job → HasKnownFeatures (Some job)
 dumped_known None job is = cc
 dumped_known (Some w) job is = let same : Dump w ≡ job = cc in subst (λ (j : Job). HasKnownFeatures (Some j)) same tt
 
 fsck_known : (uses : List Use) (job : Job) → fsck_job uses ≡ Some job → HasKnownFeatures (Some job)
-fsck_known uses job is = super_known (is_used (codes "--super") uses) job is
+fsck_known uses job is = checked_known (is_used (codes "--super") uses) (is_used (codes "-t") uses) job is
 
 dump_known : (uses : List Use) (job : Job) → dump_job uses ≡ Some job → HasKnownFeatures (Some job)
 dump_known uses job is = then_known (λ what. option_map (λ w. Dump w) what) (dump_choice uses) job (λ what. dumped_known what job) is

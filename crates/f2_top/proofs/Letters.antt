@@ -1,12 +1,11 @@
 -- The first character of a text, and clap's step over it.
-use Rattle.std.proofs.Common.{◌≡◌, ◌≢◌, ◌∙◌, ◌<◌, ◌≤◌, ◌+◌, ◌/◌, ◌%◌, ◌⊎◌, inl, inr, ⊎_elim, ℕ, zero, suc, ◌&&◌, ◌||◌, Bool, true, false, not, cond, nat_eq, nat_lt, ◌==◌, refl, sym, ap, ap₂, subst, arith, List, [], ◌∷◌, ◌++◌, length, drop, get_or, Option, Some, None, is_some, option_map, true≢false, IsUtf8, chars, slice_get, encode_utf8_all, le-ltb}
+use Rattle.std.proofs.Common.{◌≡◌, ◌∙◌, ◌<◌, ◌≤◌, ◌+◌, ◌/◌, ◌%◌, ⊎_elim, ℕ, suc, Bool, true, false, cond, nat_lt, refl, sym, ap, subst, arith, List, [], ◌∷◌, ◌++◌, length, drop, get_or, Some, true≢false, IsUtf8, chars, slice_get, encode_utf8_all, le-ltb}
 use Rattle.std.specs.Char.{encode_utf8}
 use Rattle.std.specs.Str.{all_scalars}
 use Rattle.std.proofs.lemmas.Bool.{and_parts, cases_lt}
 use Rattle.std.proofs.lemmas.Str.{chars-encodes, encode_ascii}
 use Rattle.f2_top.specs.Words.{is_empty}
 use Rattle.clap.specs.Walk.{Held, Outcome, Rule, arg_by_short, bundle_met, bundle_step, done, short_met}
-use Rattle.clap.specs.Kinds.{Kinds, or_else}
 use Rattle.clap.specs.Faults.{bundle_step_fault, flags_fault, short_fault}
 
 -- the first byte of a character that is not ASCII

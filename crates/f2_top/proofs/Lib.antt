@@ -10,8 +10,10 @@ pub mod Parsed
 pub mod Parses
 pub mod Spelling
 pub mod Turns
+pub mod Unmounted
 pub mod Used
 pub mod UuidDigits
 mod Answered
 mod Digits
 mod Texts
+mod Verdicts

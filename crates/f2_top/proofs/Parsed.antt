@@ -1,17 +1,16 @@
 -- A parse by clap against the grammar.
-use Rattle.std.proofs.Common.{◌≡◌, ◌≢◌, ◌∙◌, ◌⊎◌, inl, inr, ⊎_elim, ℕ, ◌&&◌, ◌||◌, Bool, true, false, not, cond, refl, sym, ap, ap₂, subst, List, [], ◌∷◌, ◌++◌, map, drop, length, codes, Option, Some, None, is_some, option_map, find, fold, true≢false, bytes_eq, IsUtf8}
-use Rattle.std.specs.List.{list_any, list_all}
-use Rattle.std.specs.Option.{option_and_then, option_map_or}
-use Rattle.clap.specs.Walk.{idle, Row, Rule, Walk, finished, first_of, nothing_held, one_of, row_text, settled, walk, with_default, default_rows, has_row}
-use Rattle.clap.specs.Simple.{App, Shape, argument_words, built, entered, is_simple, matches_of, names_of}
+use Rattle.std.proofs.Common.{◌≡◌, ◌≢◌, ◌∙◌, ℕ, ◌&&◌, ◌||◌, Bool, true, false, not, cond, refl, sym, ap, ap₂, List, [], ◌∷◌, drop, Option, Some, None, is_some, fold}
+use Rattle.std.specs.List.{list_any}
+use Rattle.clap.specs.Walk.{idle, Row, Rule, Walk, finished, nothing_held, settled, walk, with_default, has_row}
+use Rattle.clap.specs.Simple.{App, argument_words, built, entered, matches_of, names_of}
 use Rattle.clap.specs.Kinds.{Kinds, check_kinds, or_else}
-use Rattle.clap.specs.Faults.{built_fault, check_fault, default_fault, defaults_fault, entered_fault, fault_of, is_simple_and_free, level_fault, settle_fault, walk_fault}
+use Rattle.clap.specs.Faults.{built_fault, check_fault, default_fault, defaults_fault, entered_fault, fault_of, settle_fault, walk_fault}
 use Rattle.clap.specs.Takes.{is_given}
-use Rattle.f2_top.specs.Words.{Text, Opt, Use, Grammar, Reading, between, is_used, value_in, uses_name, uses_of, read_from}
+use Rattle.f2_top.specs.Words.{Text, Opt, Use, Grammar, between, uses_of}
 use Rattle.f2_top.specs.Parser.{AreSpelled, IsPlainName}
-use Rattle.f2_top.proofs.Spelling.{found_in, rule, rule_by, rules_of, positional_rule, positional_rules}
-use Rattle.f2_top.proofs.Used.{has_kinds, kinds_either, kinds_later, row, rows, some_kinds}
-use Rattle.f2_top.proofs.Turns.{AllUtf8, Verdict, end_of_walk, faults, held, place, shape, stand, verdict}
+use Rattle.f2_top.proofs.Spelling.{rule, rule_by, rules_of, positional_rules}
+use Rattle.f2_top.proofs.Used.{kinds_either, rows, some_kinds}
+use Rattle.f2_top.proofs.Turns.{AllUtf8, Verdict, faults, held, place, shape, stand, verdict}
 
 -- ---- after the walk
 

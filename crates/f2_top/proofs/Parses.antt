@@ -1,17 +1,15 @@
 -- What a parse of a grammar's command gives.
-use Rattle.std.proofs.Common.{◌≡◌, ◌≢◌, ◌∙◌, ◌⊎◌, inl, inr, ⊎_elim, refl, sym, ap, ap₂, subst, List, [], ◌∷◌, ◌++◌, map, drop, Option, Some, None, String, string_bytes, IsUtf8, true, false, Result, Ok, Err, MatchResult}
+use Rattle.std.proofs.Common.{◌≡◌, ◌≢◌, ◌∙◌, ⊎_elim, refl, subst, List, [], ◌∷◌, map, drop, Some, None, String, string_bytes}
 use Rattle.std.proofs.lemmas.Str.{IsUtf8-string_bytes}
-use Rattle.clap.specs.Kinds.{FailsBy, HasKind, IsAmong, Kinds}
-use Rattle.clap.specs.Faults.{fault_of, is_simple_and_free}
-use Rattle.clap.specs.Matches.{found_of}
-use Rattle.clap.specs.Simple.{App, HasMatchesOf, is_simple, matches_of}
+use Rattle.clap.specs.Kinds.{HasKind, IsAmong}
+use Rattle.clap.specs.Faults.{fault_of}
+use Rattle.clap.specs.Simple.{HasMatchesOf}
 use Rattle.clap.specs.Values.{kind_of}
-use Rattle.clap.specs.Walk.{rows_of}
 use Rattle.clap.specs.declared.error.Error.{Error}
 use Rattle.clap.specs.declared.error.kind.ErrorKind.TheVariants.{OutOfMemory}
 use Rattle.clap.specs.declared.parser.matches.ArgMatches.{ArgMatches}
 use Rattle.std.proofs.lemmas.Bool.{and_parts}
-use Rattle.f2_top.specs.Words.{Text, Grammar, Use, uses_of, between, read_from}
+use Rattle.f2_top.specs.Words.{Text, Grammar, Use, uses_of, between}
 use Rattle.f2_top.specs.Parser.{Holds, IsNamed, app_of_grammar}
 use Rattle.f2_top.proofs.Building.{built_is, simple_is}
 use Rattle.f2_top.proofs.Getters.{holds}

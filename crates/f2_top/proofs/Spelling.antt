@@ -1,17 +1,14 @@
 -- How clap finds the options that the grammar names, and what kinds of words there are.
-use Rattle.std.proofs.Common.{◌≡◌, ◌≢◌, ◌∙◌, ◌<◌, ◌≤◌, ◌⊎◌, inl, inr, ⊎_elim, ℕ, zero, suc, ◌&&◌, ◌||◌, Bool, true, false, not, cond, nat_eq, ◌==◌, refl, sym, ap, ap₂, subst, arith, List, [], ◌∷◌, ◌++◌, map, length, codes, Option, Some, None, is_some, option_map, find, true≢false, bytes_eq, slice_get}
-use Rattle.std.specs.Option.{option_and_then, option_map_or}
+use Rattle.std.proofs.Common.{◌≡◌, ◌≢◌, ◌∙◌, ◌≤◌, ℕ, ◌&&◌, ◌||◌, Bool, true, false, not, cond, nat_eq, refl, sym, ap, subst, arith, List, [], ◌∷◌, ◌++◌, map, codes, Option, Some, None, is_some, option_map, find, true≢false, bytes_eq}
+use Rattle.std.specs.Option.{option_map_or}
 use Rattle.std.proofs.lemmas.Bool.{eqb-true}
 use Rattle.std.proofs.lemmas.Slice.Eq.{bytes_eq-Decides}
-use Rattle.clap.specs.Lexer.{strip_byte, short_of}
 use Rattle.clap.specs.Walk.{Rule, arg_by_id, arg_by_index, arg_by_long, arg_by_short, has_long, has_short}
 use Rattle.clap.specs.Simple.{new_rule}
-use Rattle.clap.specs.declared.builder.action.ArgAction.{ArgAction}
-use Rattle.clap.specs.declared.builder.action.ArgAction.TheVariants.{Set, SetTrue}
 use Rattle.clap.specs.declared.builder.value_parser.ValueParser.{ValueParser}
 use Rattle.clap.specs.declared.builder.value_parser.ValueParser.TheVariants as vp
 use Rattle.f2_top.specs.Words.{Text, Opt}
-use Rattle.f2_top.specs.Parser.{AreSpelled, IsPlainName, IsSpelled, letter, long, action_by, letter_name, long_name}
+use Rattle.f2_top.specs.Parser.{AreSpelled, IsSpelled, letter, long, action_by, letter_name, long_name}
 
 -- ---- the rule of an option, as clap builds it
 

@@ -1,16 +1,16 @@
 -- What one word does to clap's walk, and what the grammar reads of it.
-use Rattle.std.proofs.Common.{◌≡◌, ◌≢◌, ◌∙◌, ◌⊎◌, inl, inr, ⊎_elim, ℕ, zero, suc, ◌+◌, ◌&&◌, ◌||◌, Bool, true, false, not, cond, nat_eq, nat_lt, ◌==◌, refl, sym, ap, ap₂, subst, arith, List, [], ◌∷◌, ◌++◌, map, length, codes, Option, Some, None, is_some, option_map, find, fold, true≢false, bytes_eq, IsUtf8, drop, take, encode_utf8}
+use Rattle.std.proofs.Common.{◌≡◌, ◌≢◌, ◌∙◌, ◌⊎◌, inl, inr, ⊎_elim, ℕ, suc, ◌+◌, ◌&&◌, ◌||◌, Bool, true, false, cond, nat_eq, nat_lt, ◌==◌, refl, sym, ap, ap₂, subst, arith, List, [], ◌∷◌, ◌++◌, length, Option, Some, None, is_some, option_map, fold, bytes_eq, IsUtf8, drop, take, encode_utf8}
 use Rattle.std.specs.List.{list_any, before_first, after_first, position_or_len}
 use Rattle.std.specs.Option.{option_and_then, option_map_or}
 use Rattle.std.proofs.lemmas.Slice.Eq.{bytes_eq-Decides}
 use Rattle.clap.specs.Lexer.{name_and_value}
-use Rattle.clap.specs.Walk.{Held, Outcome, Row, is_multiple, most_values, next_position, option_word, pending_count, positional, pushed, takes_values, used_by_id, attached_value, option_met, short_met, Rule, Step, Waiting, Walk, after_flag, after_step, arg_by_id, arg_by_index, arg_by_long, arg_by_short, bundle_met, done, plain as plain_outcome, has_row, idle, is_pending, long_met, option, reacted, settled, settled_rows, takes_several, to_positional, used, value, waits as option_waits, walked, word_met}
+use Rattle.clap.specs.Walk.{Held, Outcome, Row, is_multiple, most_values, next_position, option_word, pending_count, positional, pushed, takes_values, used_by_id, attached_value, option_met, short_met, Rule, Step, Waiting, Walk, after_flag, after_step, arg_by_id, arg_by_index, arg_by_long, arg_by_short, bundle_met, done, plain as plain_outcome, has_row, idle, is_pending, long_met, option, reacted, settled, settled_rows, takes_several, to_positional, used, value, waits as option_waits, walked}
 use Rattle.clap.specs.Simple.{Shape, new_shape}
 use Rattle.clap.specs.Kinds.{Kinds, or_else}
 use Rattle.clap.specs.declared.error.kind.ErrorKind.TheVariants.{TooManyValues}
 use Rattle.clap.specs.Faults.{positional_fault, stray_fault, flags_fault, option_fault, short_fault, long_fault, react_fault, settle_fault, step_fault, turn_fault, use_fault, walk_fault}
-use Rattle.f2_top.specs.Words.{is_equals, Text, Opt, Use, Grammar, Reading, between, waits, trailing, is_used, uses_name, with_use, word_read, next_read, read_from, ended, letters_read, letter_use, behind, long_use, positional_use, named}
-use Rattle.f2_top.specs.Parser.{AreSpelled, IsPlainName, IsSpelled, letter, long}
+use Rattle.f2_top.specs.Words.{is_equals, Text, Opt, Use, Grammar, Reading, between, waits, trailing, is_used, with_use, next_read, read_from, ended, letters_read, letter_use, behind, long_use, positional_use}
+use Rattle.f2_top.specs.Parser.{AreSpelled, IsPlainName, IsSpelled}
 use Rattle.f2_top.proofs.Spelling.{Kind, empty, plain as plain_word, dash, dashes, long_word, letters, kind, by_letter, by_long, by_name, by_place, by_plain_name, found_in, found_name, no_high, positional_rule, positional_rules, rule, rule_by, rules_of, other_name}
 use Rattle.f2_top.proofs.Letters.{First, low, high, first, any_fault, letter_fault, letter_met, any_met, no_flags_fault, no_flags_met, tail_utf8}
 use Rattle.f2_top.proofs.Used.{first_fault, first_rows, has_row-rows, has_kinds, kinds_either, kinds_later, row, rows, second_fault, some_kinds, values_given, with_one}

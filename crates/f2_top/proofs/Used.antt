@@ -1,14 +1,11 @@
 -- What clap holds after uses of options, and what it says to one more use.
-use Rattle.std.proofs.Common.{◌≡◌, ◌≢◌, ◌∙◌, ◌⊎◌, inl, inr, ⊎_elim, ℕ, zero, suc, ◌&&◌, ◌||◌, Bool, true, false, not, cond, nat_eq, ◌==◌, refl, sym, ap, ap₂, subst, arith, List, [], ◌∷◌, ◌++◌, map, length, codes, Option, Some, None, is_some, option_map, find, true≢false, bytes_eq}
-use Rattle.std.specs.List.{list_any}
+use Rattle.std.proofs.Common.{◌≡◌, ◌≢◌, ◌∙◌, ℕ, ◌||◌, Bool, true, false, cond, refl, sym, ap, List, [], ◌∷◌, ◌++◌, map, codes, Option, Some, None, true≢false, bytes_eq}
 use Rattle.std.proofs.Common.{append-nil}
-use Rattle.std.proofs.lemmas.List.{map-append}
-use Rattle.std.proofs.lemmas.Slice.Eq.{bytes_eq-Decides}
-use Rattle.clap.specs.Walk.{Row, Rule, at_row, has_row, more_values, reading_by, used, with_values, without}
+use Rattle.clap.specs.Walk.{Row, at_row, has_row, more_values, reading_by, used, without}
 use Rattle.clap.specs.Kinds.{Kinds, or_else}
 use Rattle.clap.specs.Faults.{use_fault}
 use Rattle.clap.specs.declared.parser.matches.ValueSource.TheVariants.{CommandLine}
-use Rattle.f2_top.specs.Words.{Text, Opt, Use, is_used, uses_name}
+use Rattle.f2_top.specs.Words.{Text, Opt, Use, is_used}
 use Rattle.f2_top.proofs.Spelling.{rule_by, rule}
 
 -- the text of a use's value in clap

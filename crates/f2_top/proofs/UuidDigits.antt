@@ -1,6 +1,5 @@
 -- The bytes of a uuid, one at a time.
-use Rattle.std.proofs.Common.{◌≡◌, ◌∙◌, ◌<◌, ◌≤◌, ◌+◌, ◌-◌, ℕ, zero, suc, refl, sym, ap, ap₂, arith, List, [], ◌∷◌, ◌++◌, length, take, drop, set, append_assoc, append-nil, Option, Some, None, option_map}
-use Rattle.std.specs.Option.{option_and_then}
+use Rattle.std.proofs.Common.{◌≡◌, ◌∙◌, ◌<◌, ◌≤◌, ◌+◌, ◌-◌, ℕ, zero, suc, refl, sym, ap, ap₂, arith, List, [], ◌∷◌, ◌++◌, length, take, set, append_assoc, append-nil, Option, Some, None, option_map}
 use Rattle.std.proofs.lemmas.List.{take_all, take_more_set}
 use Rattle.f2_top.specs.Numbers.{pair_of, uuid_bytes, uuid_place}
 

@@ -3,10 +3,12 @@ use Rattle.std.specs.Prelude.{ℕ, Bool, true, false, List, Option, Some, unwrap
 use Rattle.f2_super.specs.NewCopy.{HasProfile}
 use Rattle.f2_mkfs.specs.declared.formatting.Options.{Options}
 use Rattle.f2_top.specs.declared.jobs.Job.{Job}
-use Rattle.f2_top.specs.declared.jobs.Job.TheVariants.{Super, Dump, Mkfs}
+use Rattle.f2_top.specs.declared.jobs.Job.TheVariants.{Check, Tree, Dump, Mkfs}
 
 -- the job takes memory, so it may be refused for want of it
 abbrev pub takes_memory : Option Job → Bool
+takes_memory (Some Check) = true
+takes_memory (Some Tree) = true
 takes_memory (Some (Dump what)) = true
 takes_memory (Some (Mkfs sectors label uuid second features force)) = true
 takes_memory _ = false

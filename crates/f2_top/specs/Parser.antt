@@ -1,5 +1,5 @@
 -- clap's command of a tool, and what a parse by it gives.
-use Rattle.std.specs.Prelude.{◌≡◌, ◌≢◌, ◌⊎◌, ℕ, Bool, true, false, not, ◌||◌, if◌then◌else◌, List, [], ◌∷◌, ◌++◌, map, drop, codes, bytes_eq, nat_eq, ◌<◌, find, slice_get, string_bytes, Option, Some, None, option_map, Result, MatchResult}
+use Rattle.std.specs.Prelude.{◌≡◌, ℕ, Bool, true, false, not, ◌||◌, if◌then◌else◌, List, [], ◌∷◌, ◌++◌, map, drop, codes, bytes_eq, nat_eq, ◌<◌, find, slice_get, Option, Some, None, Result, MatchResult}
 use Rattle.std.specs.List.{list_all}
 use Rattle.std.specs.Option.{option_and_then, option_map_or}
 use Rattle.clap.specs.Lexer.{strip_byte, short_of}

@@ -1,5 +1,5 @@
 -- What a run answers, what it prints, and what it leaves on the disk.
-use Rattle.std.specs.Prelude.{◌≡◌, ◌≢◌, ◌⊎◌, ℕ, ◌&&◌, not, true, if◌then◌else◌, List, [], ◌++◌, take, Option, Some, None, Result, Ok, Err}
+use Rattle.std.specs.Prelude.{◌≡◌, ◌≢◌, ◌⊎◌, ℕ, Bool, ◌&&◌, not, true, false, if◌then◌else◌, List, [], ◌++◌, length, map, flat_map, take, Option, Some, None, Result, Ok, Err}
 use Rattle.f2_bytes.specs.Bytes.{Image}
 use Rattle.f2_bytes.specs.Superblock.{has_twins, is_loadable}
 use Rattle.f2_disk.specs.Disk.{State, Rose}
@@ -13,19 +13,24 @@ use Rattle.f2_view.specs.Mounting.{mounted}
 use Rattle.f2_view.specs.declared.mounting.MountRefusal.{MountRefusal}
 use Rattle.f2_view.specs.declared.mounting.MountRefusal.TheVariants as mount
 use Rattle.f2_dump.specs.declared.dumping.What.{What}
+use Rattle.f2_bytes.specs.Check.{defects, failing_rule}
+use Rattle.f2_check.specs.Collected.{defect_in}
+use Rattle.f2_check.specs.declared.verdict.Verdict.{Verdict}
+use Rattle.f2_check.specs.declared.verdict.Verdict.TheVariants as verdict
 use Rattle.f2_dump.specs.Text.{dump_lines, missing, outside}
+use Rattle.f2_dump.specs.Trees.{tree_lines}
 use Rattle.f2_mkfs.specs.Formatting.{has_magic, size_answer, unless_there, format_answer}
 use Rattle.f2_mkfs.specs.NewImage.{IsNew}
 use Rattle.f2_mkfs.specs.declared.formatting.FormatRefusal.{FormatRefusal}
 use Rattle.f2_mkfs.specs.declared.formatting.FormatRefusal.TheVariants as new
 use Rattle.f2_mkfs.specs.declared.formatting.Options.{Options}
 use Rattle.f2_top.specs.Jobs.{options_of}
-use Rattle.f2_top.specs.Text.{IsText, size_line}
+use Rattle.f2_top.specs.Text.{IsText, defect_line, defect_lines, size_line}
 use Rattle.f2_top.specs.declared.answer.Answer.{Answer}
-use Rattle.f2_top.specs.declared.answer.Answer.TheVariants.{Done, Corrected, DiskFault, SinkFault, Usage, Refused, NoMemory}
+use Rattle.f2_top.specs.declared.answer.Answer.TheVariants.{Done, Corrected, Defects, DiskFault, SinkFault, Usage, Refused, NoMemory}
 use Rattle.f2_top.specs.declared.answer.Refusal.TheVariants.{NoSuper, Unsupported, TooLarge, Truncated, NoPack, VersionLimit, BadSummary, DeviceTooSmall, TooSmall, OutOfRange, NoSuchNode, Exists}
 use Rattle.f2_top.specs.declared.jobs.Job.{Job}
-use Rattle.f2_top.specs.declared.jobs.Job.TheVariants.{Super, Dump, Mkfs}
+use Rattle.f2_top.specs.declared.jobs.Job.TheVariants.{Check, Tree, Super, Dump, Mkfs}
 
 -- what repairing the superblock copies answers to what was loaded, without a fault
 abbrev pub super_answer : Result Found SuperRefusal → Answer
@@ -69,6 +74,41 @@ abbrev pub mounted_lines : What → Image → Result Mounted MountRefusal → Li
 mounted_lines what image (Ok m) = dump_lines image what
 mounted_lines what image (Err refusal) = []
 
+-- the least rule that an image fails
+unfoldable pub least_failing : Image → Option ℕ
+least_failing image = failing_rule image 1
+
+-- what the check of an image answers, where this is the least rule that it fails, if it fails one
+abbrev pub verdict_answer : Image → Option ℕ → Answer
+verdict_answer image None = Done
+verdict_answer image (Some rule) = Defects rule (length (defects image rule))
+
+-- and its lines: those of an image without defects, which are those of the tree where that is asked for, or of its defects
+abbrev pub clean_lines : Bool → Image → List ℕ
+clean_lines with_tree image = if with_tree then tree_lines image else []
+
+abbrev pub verdict_lines : Bool → Image → Option ℕ → List ℕ
+verdict_lines with_tree image None = clean_lines with_tree image
+verdict_lines with_tree image (Some rule) = defect_lines image rule
+
+-- the same for a verdict
+abbrev pub said_answer : Verdict → Answer
+said_answer verdict.Clean = Done
+said_answer (verdict.Defects rule list count) = Defects rule count
+
+abbrev pub said_lines : Bool → Image → Verdict → List ℕ
+said_lines with_tree image verdict.Clean = clean_lines with_tree image
+said_lines with_tree image (verdict.Defects rule list count) = flat_map (defect_line rule) (map defect_in list.items)
+
+-- what the check answers to what was mounted of an image, without a fault, and its lines
+abbrev pub check_answer : Image → Result Mounted MountRefusal → Answer
+check_answer image (Ok m) = verdict_answer image (least_failing image)
+check_answer image (Err refusal) = mount_answer refusal
+
+abbrev pub checked_lines : Bool → Image → Result Mounted MountRefusal → List ℕ
+checked_lines with_tree image (Ok m) = verdict_lines with_tree image (least_failing image)
+checked_lines with_tree image (Err refusal) = []
+
 -- what making an image answers, without a fault
 abbrev pub new_answer : Result Geometry FormatRefusal → Answer
 new_answer (Ok g) = Done
@@ -101,6 +141,8 @@ FitsSizes sizes answer = answer ≡ new_answer sizes
 -- what a job answers on a disk of this many blocks, without a fault and with memory
 abbrev pub answer_of : Option Job → ℕ → Image → Answer
 answer_of None size image = Usage
+answer_of (Some Check) size image = check_answer image (mounted size image)
+answer_of (Some Tree) size image = check_answer image (mounted size image)
 answer_of (Some Super) size image = super_answer (loaded size image)
 answer_of (Some (Dump what)) size image = dump_answer what image (mounted size image)
 answer_of (Some (Mkfs sectors label uuid second features force)) size image =
@@ -117,11 +159,15 @@ Leaves job moment id size image left = left ≡ image
 abbrev pub IsLeft : Option Job → ℕ → List ℕ → ℕ → Image → Option Image → Type 0
 IsLeft job moment id size image told = (left : Image) × (told ≡ Some left) × Leaves job moment id size image left
 
--- a job's lines: a dump's are those of an image, which the disk then has to tell, and a new image's say its sizes
-abbrev pub AreLines : Option Job → State → List ℕ → Type 0
-AreLines (Some (Dump what)) old lines = (image : Image) × (old.told ≡ Some image) × (lines ≡ mounted_lines what image (mounted old.size image))
-AreLines (Some (Mkfs sectors label uuid second features force)) old lines = lines ≡ new_lines (size_answer old.size sectors)
-AreLines job old lines = lines ≡ []
+-- A job's lines, and before them those that it may have put where it ended early: of a check none but the tree's, of a
+-- dump all, and none of a job that writes. A check's and a dump's are those of an image, which the disk then has to tell, and
+-- a new image's say its sizes.
+abbrev pub AreLines : Option Job → State → List ℕ → List ℕ → Type 0
+AreLines (Some Check) old early lines = (image : Image) × (old.told ≡ Some image) × (early ≡ clean_lines false image) × (lines ≡ checked_lines false image (mounted old.size image))
+AreLines (Some Tree) old early lines = (image : Image) × (old.told ≡ Some image) × (early ≡ clean_lines true image) × (lines ≡ checked_lines true image (mounted old.size image))
+AreLines (Some (Dump what)) old early lines = (image : Image) × (old.told ≡ Some image) × (early ≡ lines) × (lines ≡ mounted_lines what image (mounted old.size image))
+AreLines (Some (Mkfs sectors label uuid second features force)) old early lines = (early ≡ []) × (lines ≡ new_lines (size_answer old.size sectors))
+AreLines job old early lines = (early ≡ []) × (lines ≡ [])
 
 -- a job that makes an image answers by its sizes, also on a disk that tells nothing
 abbrev pub AreSizes : Option Job → ℕ → Answer → Type 0
@@ -148,7 +194,7 @@ IsAnswered job size image answer =
 
 -- What a sink tells that held these bytes before: the text of the answer, or, where the sink failed, a prefix of the text
 -- of an answer that was allowed.
-abbrev pub Printed : Option Job → List ℕ → State → State → Answer → List ℕ → Option (List ℕ) → Type 0
-Printed job lines old new SinkFault had told =
-    (answer : Answer) × Allowed job old new answer × (text : List ℕ) × IsText job lines answer text × (n : ℕ) × (told ≡ Some (had ++ take n text))
-Printed job lines old new answer had told = (text : List ℕ) × IsText job lines answer text × (told ≡ Some (had ++ text))
+abbrev pub Printed : Option Job → List ℕ → List ℕ → State → State → Answer → List ℕ → Option (List ℕ) → Type 0
+Printed job early lines old new SinkFault had told =
+    (answer : Answer) × Allowed job old new answer × (text : List ℕ) × IsText job early lines answer text × (n : ℕ) × (told ≡ Some (had ++ take n text))
+Printed job early lines old new answer had told = (text : List ℕ) × IsText job early lines answer text × (told ≡ Some (had ++ text))

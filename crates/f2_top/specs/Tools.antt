@@ -1,5 +1,5 @@
 -- The tools, and the jobs that their words name.
-use Rattle.std.specs.Prelude.{ℕ, Bool, true, false, not, ◌&&◌, ◌==◌, if◌then◌else◌, List, [], ◌∷◌, length, codes, bytes_eq, Option, Some, None, option_map, unwrap_or}
+use Rattle.std.specs.Prelude.{ℕ, Bool, false, ◌&&◌, if◌then◌else◌, List, [], ◌∷◌, codes, bytes_eq, Option, Some, None, option_map, unwrap_or}
 use Rattle.std.specs.Option.{option_and_then}
 use Rattle.f2_dump.specs.declared.dumping.What.{What}
 use Rattle.f2_dump.specs.declared.dumping.What.TheVariants.{Cp, Nat, Sit, Raw, Ssa, Inode, Cat}
@@ -8,19 +8,21 @@ use Rattle.f2_top.specs.Features.{features_of}
 use Rattle.f2_top.specs.Numbers.{number_of, ino_of, range_of, uuid_of}
 use Rattle.f2_top.specs.Words.{Text, Grammar, Use, flag, is_used, uses_of, value_in, valued}
 use Rattle.f2_top.specs.declared.jobs.Job.{Job}
-use Rattle.f2_top.specs.declared.jobs.Job.TheVariants.{Super, Dump, Mkfs}
+use Rattle.f2_top.specs.declared.jobs.Job.TheVariants.{Check, Tree, Super, Dump, Mkfs}
 
 -- a tool with no option
 abbrev pub no_grammar : Grammar
 no_grammar = record { options = []; positional = None }
 
--- ---- fsck --super
+-- ---- fsck, with at most one of -t and --super
 
 abbrev pub fsck_grammar : Grammar
-fsck_grammar = record { options = flag (codes "--super") ∷ []; positional = None }
+fsck_grammar = record { options = flag (codes "--super") ∷ flag (codes "-t") ∷ []; positional = None }
 
 abbrev pub fsck_job : List Use → Option Job
-fsck_job uses = if is_used (codes "--super") uses then Some Super else None
+fsck_job uses =
+    if is_used (codes "--super") uses then (if is_used (codes "-t") uses then None else Some Super)
+    else (if is_used (codes "-t") uses then Some Tree else Some Check)
 
 -- ---- dump, with one of --cp, -n RANGE, -s RANGE, -a RANGE, -i INO, --block ADDRESS and --cat INO
 

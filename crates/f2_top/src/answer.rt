@@ -6,6 +6,8 @@ pub enum Answer {
     Done,
     /// The image was mended.
     Corrected,
+    /// The image fails this rule, and none before it, in `count` places.
+    Defects { rule: u8, count: u64 },
     /// A call of the disk failed.
     DiskFault,
     /// A put of the sink failed.
@@ -59,6 +61,7 @@ impl Answer {
         match self {
             Answer::Done => 0,
             Answer::Corrected => 1,
+            Answer::Defects { .. } => 4,
             Answer::DiskFault => 8,
             Answer::SinkFault => 9,
             Answer::Usage => 16,

@@ -52,13 +52,9 @@ fn by_place<'a>(alloc: Global, command: Command<'a>, id: &'a str) -> Result<Comm
 pub fn fsck<'a>(alloc: Global) -> Result<Command<'a>, AllocError>
     ensures { IfOk result (λ c. app_of c ≡ app_of_grammar (codes "fsck") fsck_grammar) }
 {
-    by_name(
-        alloc,
-        tool(alloc, "fsck"),
-        "--super",
-        "super",
-        ArgAction::SetTrue,
-    )
+    let command = tool(alloc, "fsck");
+    let command = by_name(alloc, command, "--super", "super", ArgAction::SetTrue)?;
+    by_letter(alloc, command, "-t", 't', ArgAction::SetTrue)
 }
 
 /// `dump`.

@@ -3,33 +3,15 @@ ghost use Rattle.std.specs.Prelude.{◌≡◌, ◌≢◌, ◌≤◌, ◌⊎◌, 
 ghost use Rattle.f2_bytes.specs.Bytes.{Image};
 ghost use Rattle.f2_disk.specs.Disk.{Reads, Goes, Rose};
 ghost use Rattle.f2_view.specs.Mounting.{mounted};
-ghost use Rattle.f2_top.specs.Run.{mount_answer, dump_answer, mounted_lines};
+ghost use Rattle.f2_top.specs.Run.{dump_answer, mounted_lines};
 ghost use Rattle.f2_top.specs.Text.{IsFront};
 
+use crate::mounts::refused;
 use crate::{Answer, Refusal};
 use f2_disk::{Disk, Sink};
 use f2_dump::{DumpRefusal, What, dump};
-use f2_view::{MountRefusal, mount};
+use f2_view::mount;
 use std::alloc::Global;
-
-// The answer for an image that can't be mounted.
-fn refused(refusal: MountRefusal) -> Answer
-    ensures { result ≡ mount_answer refusal }
-{
-    match refusal {
-        MountRefusal::NoSuper => Answer::Refused(Refusal::NoSuper),
-        MountRefusal::Unsupported(bits) => Answer::Refused(Refusal::Unsupported(bits)),
-        MountRefusal::TooLarge(blocks) => Answer::Refused(Refusal::TooLarge(blocks)),
-        MountRefusal::Truncated { blocks, held } => {
-            Answer::Refused(Refusal::Truncated { blocks, held })
-        }
-        MountRefusal::NoPack => Answer::Refused(Refusal::NoPack),
-        MountRefusal::VersionLimit(version) => Answer::Refused(Refusal::VersionLimit(version)),
-        MountRefusal::BadSummary(count) => Answer::Refused(Refusal::BadSummary(count)),
-        MountRefusal::DiskFault => Answer::DiskFault,
-        MountRefusal::NoMemory => Answer::NoMemory,
-    }
-}
 
 /// Mounts the image, and puts the lines of what is dumped.
 pub fn dump_image<D: Disk, O: Sink>(alloc: Global, what: What, disk: &mut D, out: &mut O) -> Answer

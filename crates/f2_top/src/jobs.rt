@@ -5,6 +5,10 @@ use f2_mkfs::Label;
 /// What a run is to do, as words name it.
 #[derive(Clone, Copy)]
 pub enum Job {
+    /// `fsck`: look whether the image meets the rules.
+    Check,
+    /// `fsck -t`: the same, and put a line for each name of an image that does.
+    Tree,
     /// `fsck --super`: rewrite the superblock copy that is bad or disagrees.
     Super,
     /// `dump ..`: put what the image holds as lines.

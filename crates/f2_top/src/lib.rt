@@ -3,10 +3,12 @@
 #![tactic(auto)]
 
 mod answer;
+mod checks;
 mod commands;
 mod dumps;
 mod features;
 mod jobs;
+mod mounts;
 mod new_images;
 mod numbers;
 mod report;
@@ -23,6 +25,8 @@ pub use words::job;
 mod dump_tests;
 #[cfg(test)]
 mod file_tests;
+#[cfg(test)]
+mod fsck_tests;
 #[cfg(test)]
 mod mkfs_tests;
 #[cfg(test)]

@@ -78,6 +78,7 @@ fn put_line<O: Sink>(out: &mut O, answer: &Answer) -> Result<(), SinkFault>
     match answer {
         Answer::Done => out.put(b"done\n"),
         Answer::Corrected => out.put(b"corrected\n"),
+        Answer::Defects { count, .. } => put_number(out, b"defects ", *count, b"\n"),
         Answer::DiskFault => out.put(b"disk fault\n"),
         Answer::Usage => out.put(b"usage: f2tools IMAGE TOOL OPTIONS\n"),
         Answer::Refused(refusal) => put_refusal(out, refusal),

@@ -4,14 +4,15 @@ ghost use Rattle.f2_bytes.specs.Bytes.{Image};
 ghost use Rattle.f2_bytes.specs.Superblock.{has_twins};
 ghost use Rattle.f2_disk.specs.Disk.{Reads, Goes, Rose};
 ghost use Rattle.f2_super.specs.Load.{KeepsSuper};
-ghost use Rattle.f2_top.specs.Answers.{IsSuccess, IsIdle};
+ghost use Rattle.f2_top.specs.Answers.{IsSuccess, IsIdle, IsWhole};
 ghost use Rattle.f2_top.specs.Jobs.{takes_memory, makes_image, HasKnownFeatures};
 ghost use Rattle.f2_top.specs.Tools.{job_of, is_super};
-ghost use Rattle.f2_top.specs.Text.{IsFront, early_lines};
+ghost use Rattle.f2_top.specs.Text.{IsFront};
 ghost use Rattle.f2_top.specs.Run.{answer_of, IsLeft, AreLines, AreSizes, Allowed, IsAnswered, Printed};
-ghost use Rattle.f2_top.specs.declared.jobs.Job.TheVariants.{Super, Dump, Mkfs};
+ghost use Rattle.f2_top.specs.declared.jobs.Job.TheVariants.{Check, Tree, Super, Dump, Mkfs};
 
 use crate::Answer;
+use crate::checks::check_image;
 use crate::dumps::dump_image;
 use crate::jobs::{Job, WordsRefusal};
 use crate::new_images::make_image;
@@ -35,12 +36,12 @@ fn answer<D: Disk, O: Sink>(
     ensures allowed { (result ≡ Answer.SinkFault) ⊎ Allowed job.now (D.state disk.old) (D.state disk.new) result }
     ensures sink_fault { result ≡ Answer.SinkFault → Rose (O.faults out.old) (O.faults out.new) }
     ensures stopped { (image : Image) → (D.state disk.old).told ≡ Some image → result ≡ Answer.SinkFault
-        → answer_of job.now (D.state disk.old).size image ≡ Answer.Done }
+        → IsWhole (answer_of job.now (D.state disk.old).size image) }
     ensures stopped_sizes { result ≡ Answer.SinkFault → AreSizes job.now (D.state disk.old).size Answer.Done }
     ensures stopped_job { result ≡ Answer.SinkFault → job.now ≢ None }
     ensures memory { takes_memory job.now ≡ false → result ≢ Answer.NoMemory }
-    ensures lines { (had : List ℕ) → O.told out.old ≡ Some had → (lines : List ℕ) → AreLines job.now (D.state disk.old) lines
-        → (text : List ℕ) × IsFront (early_lines job.now lines) lines result text × (O.told out.new ≡ Some (had ++ text)) }
+    ensures lines { (had : List ℕ) → O.told out.old ≡ Some had → (early lines : List ℕ) → AreLines job.now (D.state disk.old) early lines
+        → (text : List ℕ) × IsFront early lines result text × (O.told out.new ≡ Some (had ++ text)) }
     ensures image { (image : Image) → (D.state disk.old).told ≡ Some image → result ≢ Answer.DiskFault → result ≢ Answer.NoMemory
         → IsLeft job.now moment id (D.state disk.old).size image (D.state disk.new).told }
     ensures twins { IsSuccess result → job.now ≡ Some Super → (image : Image) → (D.state disk.new).told ≡ Some image → has_twins image ≡ true }
@@ -52,6 +53,8 @@ fn answer<D: Disk, O: Sink>(
     ensures sink_goes { O.faults out.old ≤ O.faults out.new }
 {
     match job {
+        Some(Job::Check) => check_image(alloc, false, disk, out),
+        Some(Job::Tree) => check_image(alloc, true, disk, out),
         Some(Job::Super) => repair_copies(disk),
         Some(Job::Dump(what)) => dump_image(alloc, *what, disk, out),
         Some(
@@ -91,8 +94,8 @@ pub fn perform<D: Disk, O: Sink>(
     ensures answer { (result ≡ Answer.SinkFault) ⊎ Allowed job.now (D.state disk.old) (D.state disk.new) result }
     ensures sink_fault { result ≡ Answer.SinkFault → Rose (O.faults out.old) (O.faults out.new) }
     ensures memory { takes_memory job.now ≡ false → result ≢ Answer.NoMemory }
-    ensures text { (had : List ℕ) → O.told out.old ≡ Some had → (lines : List ℕ) → AreLines job.now (D.state disk.old) lines
-        → Printed job.now lines (D.state disk.old) (D.state disk.new) result had (O.told out.new) }
+    ensures text { (had : List ℕ) → O.told out.old ≡ Some had → (early lines : List ℕ) → AreLines job.now (D.state disk.old) early lines
+        → Printed job.now early lines (D.state disk.old) (D.state disk.new) result had (O.told out.new) }
     ensures image { (image : Image) → (D.state disk.old).told ≡ Some image → result ≢ Answer.DiskFault → result ≢ Answer.NoMemory
         → (result ≡ Answer.SinkFault → ¬ (Rose (D.state disk.old).faults (D.state disk.new).faults))
         → IsLeft job.now moment id (D.state disk.old).size image (D.state disk.new).told }
@@ -120,8 +123,9 @@ pub fn perform<D: Disk, O: Sink>(
 /// is the second of the clock and `id` a uuid: a new image has them where the words give none, and no other job looks at
 /// them. `fsck --super` and `mkfs` put nothing before the disk's last write, so a fault of the sink leaves on the disk what
 /// the job's own answer leaves, and exactly `fsck --super` takes no memory. A dump of a number that lies outside, or that
-/// the image has no inode of, puts nothing but its last line, and so does an image that isn't made. Once the words are found
-/// to name a job, the disk's first call is for its size.
+/// the image has no inode of, puts nothing but its last line, and so does an image that isn't made. A check puts a line for
+/// each defect that it lists; the tree is put of an image without defects alone. Once the words are found to name a job, the
+/// disk's first call is for its size.
 #[tactic(auto, using(crate::proofs::KnownFeatures::job_known))]
 pub fn run<D: Disk, O: Sink>(
     alloc: Global,
@@ -136,9 +140,9 @@ pub fn run<D: Disk, O: Sink>(
     ensures sink_fault { result ≡ Answer.SinkFault → Rose (O.faults out.old) (O.faults out.new) }
     ensures memory { is_super (map string_bytes words.now) ≡ true → result ≢ Answer.NoMemory }
 
-    // What it prints. A dump's lines are those of an image that the disk tells.
-    ensures text { (had : List ℕ) → O.told out.old ≡ Some had → (lines : List ℕ) → AreLines (job_of (map string_bytes words.now)) (D.state disk.old) lines
-        → Printed (job_of (map string_bytes words.now)) lines (D.state disk.old) (D.state disk.new) result had (O.told out.new) }
+    // What it prints. The lines of a check and of a dump are those of an image that the disk tells.
+    ensures text { (had : List ℕ) → O.told out.old ≡ Some had → (early lines : List ℕ) → AreLines (job_of (map string_bytes words.now)) (D.state disk.old) early lines
+        → Printed (job_of (map string_bytes words.now)) early lines (D.state disk.old) (D.state disk.new) result had (O.told out.new) }
 
     // What it leaves on a disk that tells its blocks, unless that had a fault or memory was short.
     ensures image { (image : Image) → (D.state disk.old).told ≡ Some image → result ≢ Answer.DiskFault → result ≢ Answer.NoMemory
@@ -152,9 +156,10 @@ pub fn run<D: Disk, O: Sink>(
     ensures durable { IsSuccess result → (D.state disk.old).pending ≡ false → (D.state disk.new).pending ≡ false }
 
     // Unless the disk or the sink has a fault or memory is short, it answers by the image: fsck --super on an image that can
-    // be loaded Done exactly where both superblock copies pass and agree, else Corrected; a dump of an image that can be
-    // mounted Done, or OutOfRange exactly where a number of it lies outside, or NoSuchNode exactly where it asks for an inode
-    // or a file that the image lacks; mkfs Done, or the first refusal for the sizes or for what the disk holds.
+    // be loaded Done exactly where both superblock copies pass and agree, else Corrected; fsck and fsck -t on an image that can
+    // be mounted Done exactly where it meets all rules, else Defects with the least rule that it fails; a dump of such an image
+    // Done, or OutOfRange exactly where a number of it lies outside, or NoSuchNode exactly where it asks for an inode or a file
+    // that the image lacks; mkfs Done, or the first refusal for the sizes or for what the disk holds.
     ensures complete { (image : Image) → (D.state disk.old).told ≡ Some image
         → ¬ (Rose (D.state disk.old).faults (D.state disk.new).faults) → ¬ (Rose (O.faults out.old) (O.faults out.new))
         → IsAnswered (job_of (map string_bytes words.now)) (D.state disk.old).size image result }

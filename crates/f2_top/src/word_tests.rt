@@ -13,6 +13,8 @@ const MOST: u64 = 0xFFFF_FFFF_FFFF_FFFF;
 pub(crate) enum Asked {
     Usage,
     NoMemory,
+    Check,
+    Tree,
     Super,
     Dump(What),
     Image,
@@ -20,6 +22,8 @@ pub(crate) enum Asked {
 
 pub(crate) fn kind_of(answer: Result<Job, WordsRefusal>) -> Asked {
     match answer {
+        Ok(Job::Check) => Asked::Check,
+        Ok(Job::Tree) => Asked::Tree,
         Ok(Job::Super) => Asked::Super,
         Ok(Job::Dump(what)) => Asked::Dump(what),
         Ok(Job::Mkfs { .. }) => Asked::Image,
@@ -159,8 +163,25 @@ const MORE: [(&[&str], Asked); 57] = [
     (&["dump", "--block\n", "3"], Asked::Usage),
 ];
 
-// Two options together, and what the tables before lack: a value right behind its letter, and none behind `=`.
-const REST: [(&[&str], Asked); 39] = [
+// Words of `fsck` with its flags, two options together, and what the tables before lack: a value right behind its letter, and
+// none behind `=`.
+const REST: [(&[&str], Asked); 55] = [
+    (&["fsck"], Asked::Check),
+    (&["fsck", "--"], Asked::Check),
+    (&["fsck", "-t"], Asked::Tree),
+    (&["fsck", "-t", "--"], Asked::Tree),
+    (&["fsck", "-t", "-t"], Asked::Usage),
+    (&["fsck", "-tt"], Asked::Usage),
+    (&["fsck", "-t", "--super"], Asked::Usage),
+    (&["fsck", "--super", "-t"], Asked::Usage),
+    (&["fsck", "-t="], Asked::Usage),
+    (&["fsck", "-t", "x"], Asked::Usage),
+    (&["fsck", "--t"], Asked::Usage),
+    (&["fsck", "-tf"], Asked::Usage),
+    (&["fsck", "-"], Asked::Usage),
+    (&["fsck", "--super", "--super"], Asked::Usage),
+    (&["fsck", "--super", "--"], Asked::Super),
+    (&["fsck", "fsck"], Asked::Usage),
     (&["dump", "--cp", "-s", "3~4"], Asked::Usage),
     (&["dump", "--cp", "-a", "3~4"], Asked::Usage),
     (&["dump", "--cp", "-i", "3"], Asked::Usage),
@@ -334,7 +355,7 @@ fn more_words_name_jobs(rt: HostRuntime) -> Result<(), Fail> {
 }
 
 #[test]
-fn one_option_names_a_dump(rt: HostRuntime) -> Result<(), Fail> {
+fn flags_and_options_stand_alone(rt: HostRuntime) -> Result<(), Fail> {
     let alloc = rt.alloc();
     for (texts, wanted) in REST {
         let words = words(alloc, texts)?;

@@ -128,10 +128,13 @@ fn dump_options(matches: &ArgMatches<'_>) -> Option<Job>
 fn fsck_options(matches: &ArgMatches<'_>) -> Option<Job>
     ensures { (uses : List Use) → Holds fsck_grammar uses matches.now → result ≡ fsck_job uses }
 {
+    let tree = flag(matches, "-t");
     if flag(matches, "--super") {
-        Some(Job::Super)
+        if tree { None } else { Some(Job::Super) }
+    } else if tree {
+        Some(Job::Tree)
     } else {
-        None
+        Some(Job::Check)
     }
 }
 

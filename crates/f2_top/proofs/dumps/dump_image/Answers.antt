@@ -5,14 +5,14 @@ use Rattle.f2_disk.proofs.Runs.{reads_then}
 use Rattle.f2_view.specs.Mounted.{Mounted, layout_in}
 use Rattle.f2_view.specs.Mounting.{mounted}
 use Rattle.f2_view.specs.declared.mounting.MountRefusal.{MountRefusal}
-use Rattle.f2_view.specs.declared.mounting.MountRefusal.TheVariants as mount
 use Rattle.f2_dump.specs.Dump.{Refuses, Lacks}
 use Rattle.f2_dump.specs.declared.dumping.DumpRefusal.{DumpRefusal}
 use Rattle.f2_dump.specs.declared.dumping.DumpRefusal.TheVariants.{OutOfRange}
 use Rattle.f2_dump.specs.declared.dumping.What.{What}
 use Rattle.f2_dump.specs.Text.{dump_lines, missing, outside}
-use Rattle.f2_top.specs.Run.{number_answer, mount_answer, dump_answer, mounted_lines}
+use Rattle.f2_top.specs.Run.{number_answer, dump_answer, mounted_lines}
 use Rattle.f2_top.specs.Text.{IsFront}
+use Rattle.f2_top.proofs.Unmounted.{unmounted}
 use Rattle.f2_top.proofs.dumps.dump_image.Goals as goal
 
 -- a dump that ended early put a prefix of the lines
@@ -78,21 +78,9 @@ pub returns-in-Ok-clause-lines : goal.returns-in-Ok-clause-lines
 returns-in-Ok-clause-lines g c = λ had told image told'.
     ([], refl, c.dump.ensures.range.absent c.in-Err-NoSuchNode.ino (cc) ∙ told ∙ ap (λ (l : List ℕ). Some l) (sym (append-nil had)))
 
--- an image that can't be mounted has no lines
-unmounted : (lines : List ℕ) (refusal : MountRefusal) → IsFront lines lines (mount_answer refusal) []
-unmounted lines mount.NoSuper = refl
-unmounted lines (mount.Unsupported bits) = refl
-unmounted lines (mount.TooLarge blocks) = refl
-unmounted lines (mount.Truncated blocks held) = refl
-unmounted lines mount.NoPack = refl
-unmounted lines (mount.VersionLimit version) = refl
-unmounted lines (mount.BadSummary count) = refl
-unmounted lines mount.DiskFault = (0, refl)
-unmounted lines mount.NoMemory = (0, refl)
-
 pub returns-clause-lines : goal.returns-clause-lines
 returns-clause-lines g c = λ had told image told'. (
   [],
-  subst (λ a. let lines = mounted_lines c.args.what image (mounted (g.D.Disk.state c.args.disk.now).size image) in IsFront lines lines a []) (sym c.refused.ensures) (unmounted _ c.in-Err.refusal),
+  subst (λ a. let lines = mounted_lines c.args.what image (mounted (g.D.Disk.state c.args.disk.now).size image) in IsFront lines lines a []) (sym c.refused.ensures) (unmounted _ _ c.in-Err.refusal),
   told ∙ ap (λ (l : List ℕ). Some l) (sym (append-nil had)),
 )

@@ -1,4 +1,4 @@
-use Rattle.std.proofs.Common.{rules, ◌≡◌, ◌∙◌, sym, ap, arith, refl, Some, None, option_map, bit_or}
+use Rattle.std.proofs.Common.{rules, ◌≡◌, ◌∙◌, sym, ap, refl, None, option_map, bit_or}
 use Rattle.f2_top.specs.Features.{feature_of, features_with}
 use Rattle.f2_top.proofs.FeatureLists.{one_more, one_unknown, last_one}
 use Rattle.f2_top.proofs.features.features.Goals as goal

@@ -1,4 +1,4 @@
-use Rattle.std.proofs.Common.{rules, ◌≡◌, ◌∙◌, sym, ap, arith, refl, ◌-◌}
+use Rattle.std.proofs.Common.{rules, ◌∙◌, sym, ap, arith, refl, ◌-◌}
 use Rattle.f2_top.specs.Numbers.{pair_of}
 use Rattle.f2_top.proofs.UuidDigits.{one_byte, all_bytes}
 use Rattle.f2_top.proofs.numbers.uuid_pairs.Goals as goal

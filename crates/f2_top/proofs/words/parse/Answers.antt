@@ -1,6 +1,6 @@
-use Rattle.std.proofs.Common.{◌≡◌, ◌∙◌, sym, ap, subst, map, string_bytes}
+use Rattle.std.proofs.Common.{◌∙◌, sym, ap, subst, map, string_bytes}
 use Rattle.clap.specs.Faults.{fault_of, is_simple_and_free}
-use Rattle.clap.specs.Kinds.{FailsBy, HasKind}
+use Rattle.clap.specs.Kinds.{HasKind}
 use Rattle.clap.specs.Simple.{App, HasMatchesOf}
 use Rattle.f2_top.proofs.Building.{simple_is}
 use Rattle.f2_top.proofs.Parses.{parse_given, parse_refused, rest_utf8}
