@@ -25,6 +25,7 @@ bench: build
 	bench/dump_files.py
 	bench/libraries.py
 	bench/new_images.py
+	bench/check.py
 
 install: build
 	install -D -m 755 $(PROGRAM) $(DESTDIR)$(PREFIX)/bin/f2tools

@@ -21,17 +21,17 @@ SAMPLES = 11
 STARTS = 3  # of each program, in each sample
 
 
-def make_full_image(image, tree, add):
+def make_full_image(image, tree, add, files=FILES):
     make_image(image, BLOCKS)
-    lay_out(tree, FILES)
+    lay_out(tree, files)
     add(tree)
     subprocess.run(["sload.f2fs", "-f", tree, image], check=True, stdin=subprocess.DEVNULL, stdout=subprocess.DEVNULL)
     shutil.rmtree(tree)
 
 
 @contextmanager
-def full_image(add=lambda tree: None):
-    """The image, with the files that `add(tree)` adds, in a folder that becomes the current one."""
+def full_image(add=lambda tree: None, files=FILES):
+    """The image, of so many files and those that `add(tree)` adds, in a folder that becomes the current one."""
     need_program()
     if any(shutil.which(tool) is None for tool in NEEDED):
         print(f"skipped: {', '.join(NEEDED)} are not all installed")
@@ -41,7 +41,7 @@ def full_image(add=lambda tree: None):
         os.chdir(folder)
         image = f"{folder}/image"
         try:
-            make_full_image(image, f"{folder}/tree", add)
+            make_full_image(image, f"{folder}/tree", add, files)
         except (OSError, subprocess.CalledProcessError) as why:
             sys.exit(f"no image in {folder} ({why}): set TMPDIR to a folder that takes one")
         yield image
@@ -60,8 +60,10 @@ def peak_memory(words):
         return int(file.read()) / 1024
 
 
-def compare(image, comparisons):
-    """Prints what is measured of comparisons: a name, the words of f2tools and of the other program, and the ratio wanted."""
+def compare(image, comparisons, memory=16):
+    """Prints what is measured of comparisons: a name, the words of f2tools and of the other program, and the ratio wanted. The
+    memory that is wanted is in MiB.
+    """
     print(f"{os.cpu_count()} cores; medians of {SAMPLES} samples of {STARTS} starts each")
     print()
     print_row("time of a start", "f2tools", "the other", "ratio", "wanted")
@@ -77,7 +79,7 @@ def compare(image, comparisons):
     else:
         print_row("peak memory", "f2tools", "the other", "", "wanted")
         for name, *sides, _ in comparisons:
-            print_row(name, *(f"{peak_memory(words):.1f} MiB" for words in sides), "", "below 16 MiB")
+            print_row(name, *(f"{peak_memory(words):.1f} MiB" for words in sides), "", f"below {memory} MiB")
 
     print()
     if shutil.which("strace") is None:

@@ -132,7 +132,7 @@ run_real() {
     local name=$1
     shift
     "$@" "$made" </dev/null >"$tmp/log" 2>&1 && return
-    fail "$name: $1 ended badly: $(tail -n 3 "$tmp/log")"
+    fail "$name: $1 ended badly: $(tail -c 300 "$tmp/log")"
     return 1
 }
 
