@@ -42,6 +42,9 @@ show_first() {
 echo "A new image in a sparse file of 64 MiB:"
 truncate -s 64M "$tmp/image"
 show 0 $'blocks 16384 main 24\ndone' mkfs -l demo -O lost_found
+echo "It meets the rules, and this is its tree:"
+show 0 'done' fsck
+show 0 $'lost+found/\ndone' fsck -t
 echo "Its checkpoint, and the inode of its root:"
 show_first 6 dump --cp
 show_first 9 dump -i 3

@@ -4,7 +4,8 @@ source "$(dirname "$0")/expect.bash"
 
 image=$tmp/image
 usage='usage: f2tools IMAGE TOOL OPTIONS'
-dumps=('dump --cp' 'dump -n 0~-1' 'dump -s 0~-1' 'dump --block 0' 'dump -a 0~-1' 'dump -i 3' 'dump --cat 3')
+# the jobs that mount the image
+readers=('fsck' 'fsck -t' 'dump --cp' 'dump -n 0~-1' 'dump -s 0~-1' 'dump --block 0' 'dump -a 0~-1' 'dump -i 3' 'dump --cat 3')
 
 lay_out() {
     python3 "$top/scripts/superblock_image.py" "$@"
@@ -21,7 +22,7 @@ expect_unchanged() {
 expect_refusal() {
     local name=$1 text=$2 job
     shift 2
-    (($# > 0)) || set -- 'fsck --super' "${dumps[@]}"
+    (($# > 0)) || set -- 'fsck --super' "${readers[@]}"
     cp --sparse=always "$image" "$tmp/before"
     for job; do
         # $job is some words
@@ -70,7 +71,7 @@ check_contents() {
     expect_refusal 'all features, in the second copy alone' 'refused 2 Unsupported 4294964735'
     # both superblock copies are good, and there is no checkpoint
     lay_out "$image" 16384
-    expect_refusal 'no checkpoint pack' 'refused 5 NoPack' "${dumps[@]}"
+    expect_refusal 'no checkpoint pack' 'refused 5 NoPack' "${readers[@]}"
     # without a pack, no number is looked at
     expect_refusal 'neither a checkpoint pack nor the number' 'refused 5 NoPack' \
         'dump -n 7~5' 'dump -s 16384~16384' 'dump --block 16384' 'dump -a 7~5' 'dump -i 0' 'dump --cat 4294967295'
@@ -85,7 +86,7 @@ check_contents() {
 check_names() {
     local job
     mkdir "$tmp/folder"
-    for job in 'fsck --super' "${dumps[@]}"; do
+    for job in 'fsck --super' "${readers[@]}"; do
         # $job is some words
         # shellcheck disable=SC2086
         {
@@ -164,11 +165,11 @@ check_outputs() {
         lay_out "$image" 16384 --zero-first --zero-second
         expect_unchanged "$output: refused" 9 '' "$output" "$program" "$image" fsck --super
         lay_out "$image" 16384
-        for job in "${dumps[@]}"; do
+        for job in "${readers[@]}"; do
             # shellcheck disable=SC2086
             expect_unchanged "$output: $job" 9 '' "$output" "$program" "$image" $job
         done
-        expect_unchanged "$output: usage" 9 '' "$output" "$program" "$image" fsck
+        expect_unchanged "$output: usage" 9 '' "$output" "$program" "$image" fsck -x
         expect "$output: disk fault" 9 '' "$output" "$program" "$tmp/missing" fsck --super
         expect "$output: no words" 9 '' "$output" "$program"
     done
@@ -185,7 +186,7 @@ check_words() {
     lay_out "$image" 16384 --zero-first
     expect_usage 'no words'
     expect_usage 'an image alone' "$image"
-    expect_usage 'no option' "$image" fsck
+    expect_usage 'two options' "$image" fsck -t --super
     expect_usage 'no tool' "$image" --super
     expect_usage 'the words turned' "$image" --super fsck
     expect_usage 'a word too many' "$image" fsck --super --super
