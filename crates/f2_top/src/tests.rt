@@ -209,7 +209,7 @@ fn other_words_are_no_job(rt: HostRuntime) -> Result<(), Fail> {
     let alloc = rt.alloc();
     let rows: [&[&str]; 8] = [
         &[],
-        &["fsck"],
+        &["fsck", "super"],
         &["--super"],
         &["fsck", "-x"],
         &["fsck", "--super", ""],
