@@ -20,6 +20,7 @@ FILE = 3_000  # bytes: such a file stands in its inode, so that 80,000 of them f
 
 
 def add_large(tree):
+    os.makedirs(tree, exist_ok=True)
     with open(f"{tree}/large", "wb") as file:
         for _ in range(LARGE // 256):
             file.write(os.urandom(256 * BLOCK))
