@@ -11,6 +11,7 @@ from collections import Counter
 
 sys.dont_write_bytecode = True
 from checkpoint_packs import counting_pack, number_at, version
+from directory_items import items
 from image_files import (
     ADDRESSES,
     DIRECTORY,
@@ -33,7 +34,6 @@ RESERVED = 2**32 - 1
 LISTED = 64
 IN_NODE = 1018
 NIDS = 4052  # where the five nids of an inode begin
-ENTRY = struct.Struct("<IIHB")  # hash, number, length of the name, type
 SLOTS = 214
 KINDS = {8: 1, 4: 2, 2: 3, 6: 4, 1: 5, 12: 6, 10: 7}  # the type of an entry by the first digit of a mode
 DOTS = 0x10  # of the inline bits
@@ -87,29 +87,6 @@ def pad_word(pad, piece):
     for byte in piece:
         pad = (byte + (pad << 8)) & 0xFFFFFFFF
     return pad
-
-
-def items(area, slots):
-    """Slot, hash, number, length, type, name and legality of each item of an area."""
-    entries, names = len(area) - 19 * slots, len(area) - 8 * slots
-    slot = 0
-    while slot < slots:
-        if not area[slot // 8] >> slot % 8 & 1:
-            slot += 1
-            continue
-        hash_of, ino, length, kind = ENTRY.unpack_from(area, entries + ENTRY.size * slot)
-        taken = (length + 7) // 8
-        cut = length > 255 or slot + taken > slots
-        start = names + 8 * slot
-        name = area[start : start + length]
-        legal = 0 < length and not cut and not {0, 0x2F} & set(name)
-        yield slot, hash_of, ino, length, kind, name, legal
-        if length == 0:
-            slot += 1
-        elif cut:
-            return
-        else:
-            slot += taken
 
 
 def buckets(level, depth):

@@ -10,15 +10,14 @@ import sys
 
 sys.dont_write_bytecode = True
 from checkpoint_packs import FORMATS, counting_pack, number_at, sealed
+from directory_items import ENTRY, items
 from image_files import (
     ADDRESSES,
     DENTRIES,
-    DENTRY,
     DIRECTORY,
     FOOTER,
     INLINE_DATA,
     INLINE_DENTRY,
-    NAMES,
     REGULAR,
     ROOT,
     SLOTS,
@@ -115,16 +114,9 @@ class Damaged:
             if address not in self.files.main:
                 continue
             data = image_block(self.image, address)
-            slot = 0
-            while slot < SLOTS:
-                if not data[slot // 8] >> slot % 8 & 1:
-                    slot += 1
-                    continue
-                ino, length = DENTRY.unpack_from(data, DENTRIES + DENTRY.size * slot)
-                name = data[NAMES + 8 * slot :][:length]
+            for slot, _, ino, _, _, name, _ in items(data, SLOTS):
                 if wanted(name, ino):
-                    return address, DENTRIES + DENTRY.size * slot
-                slot += -(-length // 8)
+                    return address, DENTRIES + ENTRY.size * slot
         raise StopIteration
 
 

@@ -11,6 +11,7 @@ import sys
 
 sys.dont_write_bytecode = True
 from checkpoint_packs import counting_pack, number_at
+from directory_items import items
 from image_tables import FIRST_NID, NodeTable, image_block, put_lines
 
 FIELDS = [  # of struct f2fs_inode: name, offset and width
@@ -45,8 +46,6 @@ DIRECTORY, REGULAR, SYMLINK = 4, 8, 10  # the first digit of a mode
 INLINE_XATTR, INLINE_DATA, INLINE_DENTRY = 1, 2, 4
 ROOT = 3
 SLOTS, DENTRIES = 214, 30  # of a block of a folder, and where they begin
-DENTRY = struct.Struct("<4xIHx")  # number and length of the name
-NAMES = DENTRIES + DENTRY.size * SLOTS
 
 
 def kind_of(inode):
@@ -98,16 +97,8 @@ class Files:
         """Each name in a folder whose inode has the addresses of all its blocks, and the number of its file."""
         for address in addresses(self.inode(folder)).values():
             data = image_block(self.image, address)
-            slot = 0
-            while slot < SLOTS:
-                if not data[slot // 8] >> slot % 8 & 1:
-                    slot += 1
-                    continue
-                ino, length = DENTRY.unpack_from(data, DENTRIES + DENTRY.size * slot)
-                start = NAMES + 8 * slot
-                yield data[start : start + length], ino
-                # a name fills as many slots as it needs
-                slot += -(-length // 8)
+            for _, _, ino, _, _, name, _ in items(data, SLOTS):
+                yield name, ino
 
     def paths(self, folder=ROOT, above=b""):
         for name, ino in self.names(folder):

@@ -4,32 +4,16 @@
 It prints a line for each name but `.` and `..`: the hash that its entry says, and the bytes of the name in hexadecimal.
 """
 import argparse
-import struct
 import sys
 
 sys.dont_write_bytecode = True
 from checkpoint_packs import counting_pack
+from directory_items import items
 from image_files import DIRECTORY, Files, addresses, kind_of
 from image_tables import image_block
 
 AREA, INLINE_WORDS = 364, 872  # where the inline area begins, and its words, with 50 more taken for attributes
-ENTRY = struct.Struct("<IIHB")  # hash, number, length of the name, type
 INLINE_DENTRY = 4
-
-
-def items(area, slots):
-    """The hash and the name of each item of an area."""
-    entries, names = len(area) - 19 * slots, len(area) - 8 * slots
-    slot = 0
-    while slot < slots:
-        if not area[slot // 8] >> slot % 8 & 1:
-            slot += 1
-            continue
-        hash_of, _, length, _ = ENTRY.unpack_from(area, entries + ENTRY.size * slot)
-        start = names + 8 * slot
-        yield hash_of, area[start : start + length]
-        # a name fills as many slots as it needs
-        slot += max(1, -(-length // 8))
 
 
 def directory_items(files, ino):
@@ -51,7 +35,7 @@ def main():
         for ino in files.inodes():
             if kind_of(files.inode(ino)) != DIRECTORY:
                 continue
-            for hash_of, name in directory_items(files, ino):
+            for _, hash_of, _, _, _, name, _ in directory_items(files, ino):
                 if name not in (b".", b".."):
                     print(hash_of, name.hex())
 
