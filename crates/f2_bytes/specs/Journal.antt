@@ -1,9 +1,10 @@
 -- The entries of the two tables, and the journals that go before them.
-use Rattle.std.specs.Prelude.{◌≡◌, ℕ, ◌+◌, ◌-◌, ◌*◌, ◌/◌, ◌%◌, ◌^◌, ◌<◌, ◌&&◌, Bool, nat_le, if◌then◌else◌, List, ◌++◌, map, flat_map, length, replicate}
+use Rattle.std.specs.Prelude.{◌≡◌, ℕ, ◌+◌, ◌-◌, ◌*◌, ◌/◌, ◌%◌, ◌^◌, ◌<◌, ◌&&◌, Bool, nat_le, nat_lt, if◌then◌else◌, List, ◌++◌, map, flat_map, length, replicate}
 use Rattle.std.specs.List.{range_with_len}
 use Rattle.byteorder.specs.Endian.{little_bytes}
-use Rattle.f2_bytes.specs.Bytes.{Block, bytes_at, number_at}
-use Rattle.f2_bytes.specs.Checkpoint.{Pack, pack_head, pack_total_block_count, pack_start_sum, is_compact, node_summary_blocks}
+use Rattle.f2_bytes.specs.Bytes.{Block, Image, bytes_at, number_at}
+use Rattle.f2_bytes.specs.Superblock.{is_loadable}
+use Rattle.f2_bytes.specs.Checkpoint.{Pack, pack_head, pack_total_block_count, pack_start_sum, is_compact, node_summary_blocks, checkpoint_ver, head, pack, has_checkpoint}
 
 -- an entry of the node address table: the inode that the node belongs to, and where the node stands
 pub record NatEntry : Type 0 where
@@ -127,3 +128,10 @@ sit_journal_area pack =
 -- the journals of a pack hold no more records than they have room for
 abbrev pub are_journals_bounded : Pack → Bool
 are_journals_bounded pack = nat_le (journal_count (nat_journal_area pack)) nat_room && nat_le (journal_count (sit_journal_area pack)) sit_room
+
+-- the image can be mounted
+abbrev pub is_mountable : Image → Bool
+is_mountable image = is_loadable image
+    && has_checkpoint image
+    && nat_lt (checkpoint_ver (head image)) (2 ^ 62)
+    && are_journals_bounded (pack image)

@@ -4,10 +4,13 @@ pub mod Bytes
 pub mod Check
 pub mod Checkpoint
 pub mod Checksum
+pub mod Defragment
 pub mod Directory
 pub mod Fields
 pub mod Format
 pub mod Journal
+pub mod Laws
+pub mod Moved
 pub mod Names
 pub mod Node
 pub mod NodeAddressTable
@@ -16,4 +19,5 @@ pub mod RollForward
 pub mod SegmentTable
 pub mod Summary
 pub mod Superblock
+pub mod Support
 pub mod Tree

@@ -26,6 +26,13 @@ footer_cp_ver b = footer_row b 3
 abbrev pub footer_next : Block → ℕ
 footer_next b = footer_row b 4
 
+-- an fsync wrote the node; its file has a name that is to be added
+abbrev pub has_fsync_mark : Block → Bool
+has_fsync_mark b = has_bit (footer_flag b) 1
+
+abbrev pub has_dentry_mark : Block → Bool
+has_dentry_mark b = has_bit (footer_flag b) 2
+
 -- the node's place among those of its file
 abbrev pub node_offset : Block → ℕ
 node_offset b = footer_flag b / 8
