@@ -3,6 +3,7 @@ pub mod DirectoryReads
 mod Mounts
 pub mod NodeReads
 pub mod Pushes
+mod Renewed
 pub mod Rows
 pub mod ScannedItems
 pub mod SummaryReads

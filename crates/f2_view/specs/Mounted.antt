@@ -1,7 +1,7 @@
 -- What a mount keeps of an image.
 use Rattle.std.specs.Prelude.{◌≡◌, ℕ, ◌^◌, ◌<◌, ◌≤◌, true, Some}
 use Rattle.f2_bytes.specs.declared.layout.Layout.{Layout}
-use Rattle.f2_bytes.specs.Bytes.{Image}
+use Rattle.f2_bytes.specs.Bytes.{Image, block_at}
 use Rattle.f2_bytes.specs.Superblock.{layout_of, IsInOrder, super_copy, super_bytes, has_twins}
 use Rattle.f2_bytes.specs.Checkpoint.{checkpoint_ver, nat_bits, sit_bits, pack, pack_number, has_checkpoint}
 use Rattle.f2_super.specs.declared.loading.Found.{Found}
@@ -31,7 +31,6 @@ pub record IsMountOf (image : Image) (m : Mounted) : Type 0 where
 pub record IsKept (m : Mounted) : Type 0 where
   pub in_order : IsInOrder (layout_in m)
   pub chosen : IsChosen (layout_in m) m.chosen
-  pub version : checkpoint_ver m.chosen.head < 2 ^ 62
 
 -- what a mount keeps, and its tables, which were opened with it
 pub record IsWhole (m : Mounted) (nat : NatTable) (sit : SitTable) : Type 0 where
@@ -39,8 +38,13 @@ pub record IsWhole (m : Mounted) (nat : NatTable) (sit : SitTable) : Type 0 wher
   pub nat_opened : OpensNat (layout_in m) (nat_bits m.chosen.head) m.chosen.nat_journal nat
   pub sit_opened : OpensSit (layout_in m) (sit_bits m.chosen.head) m.chosen.sit_journal sit
 
--- what is known of a mount on a disk of this many blocks
+-- what is known of an image that was just mounted, on a disk of this many blocks
 pub record IsMounted (size : ℕ) (m : Mounted) : Type 0 where
   pub sound : IsSound size m.found
   pub inside : (layout_in m).blocks ≤ size
   pub kept : IsKept m
+  pub version : checkpoint_ver m.chosen.head < 2 ^ 62
+
+-- an image has the superblock copies of another one
+abbrev pub HasCopies : Image → Image → Type 0
+HasCopies image other = (n : ℕ) → n < 2 → block_at image n ≡ block_at other n

@@ -1,6 +1,7 @@
 // What a mount keeps.
 use f2_bytes::Layout;
 use f2_pack::{Chosen, Log};
+use f2_sum::SitEntry;
 use f2_super::Found;
 use f2_tables::{Nat, Sit};
 use std::alloc::Global;
@@ -27,11 +28,15 @@ impl Model for Mount {
 }
 
 impl Mount {
-    ghost use Rattle.std.specs.Prelude.{◌≡◌, ◌<◌};
+    ghost use Rattle.std.specs.Prelude.{◌≡◌, ◌<◌, true};
+    ghost use Rattle.f2_bytes.specs.Bytes.{Image};
     ghost use Rattle.f2_bytes.specs.NodeAddressTable.{nid_limit};
-    ghost use Rattle.f2_view.specs.Mounted.{layout_in, IsKept, IsWhole};
-    ghost use Rattle.f2_bytes.specs.Checkpoint.{log, checkpoint_ver};
+    ghost use Rattle.f2_view.specs.Mounted.{layout_in, IsKept, IsWhole, IsMountOf, HasCopies};
+    ghost use Rattle.f2_bytes.specs.Checkpoint.{log, checkpoint_ver, nat_bits, sit_bits, pack, pack_number, has_checkpoint};
+    ghost use Rattle.f2_pack.specs.Choice.{IsChosen};
+    ghost use Rattle.f2_pack.specs.Held.{chosen_of};
     ghost use Rattle.f2_pack.specs.Logs.{log_of};
+    ghost use Rattle.f2_tables.specs.Tables.{OpensNat, OpensSit};
 
     // The mount of an image with this superblock and this checkpoint pack, and the tables that were opened with them.
     pub(crate) fn of(alloc: Global, found: Found, chosen: Chosen, nat: Nat, sit: Sit) -> Mount
@@ -84,10 +89,25 @@ impl Mount {
         self.nat.limit()
     }
 
-    /// The version of the checkpoint, below 2^62.
+    /// The version of the checkpoint. It is below 2^62 in an image that was just mounted.
     pub fn version(&self) -> u64
         ensures { result ≡ checkpoint_ver self.now.chosen.head }
     {
         self.chosen.head().field(0)
+    }
+
+    /// The mount once a checkpoint was written: of each image that has the superblock copies of before, and in which the
+    /// pack counts of which `c` is kept. The tables were opened with it. `changed` has the new entry of each segment
+    /// whose entry differs from before; as long as a mount keeps nothing of single segments they are not looked at.
+    pub fn renew(self, c: Chosen, n: Nat, s: Sit, changed: &[(u32, SitEntry)]) -> Mount
+        requires chosen { IsChosen (layout_in self) c }
+        requires nat { OpensNat (layout_in self) (nat_bits c.head) c.nat_journal n }
+        requires sit { OpensSit (layout_in self) (sit_bits c.head) c.sit_journal s }
+        ensures value { result ≡ record { found = self.found; chosen = c } }
+        ensures of_image { (old image : Image) → IsMountOf old self → HasCopies image old → has_checkpoint image ≡ true
+            → c ≡ chosen_of (pack image) (pack_number image) → IsMountOf image result }
+    {
+        let _ = changed;
+        Mount::of(self.alloc, self.found, c, n, s)
     }
 }
