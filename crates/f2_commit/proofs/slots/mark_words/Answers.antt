@@ -1,0 +1,12 @@
+use Rattle.std.proofs.Common.{◌+◌, ◌==◌, ap}
+use Rattle.f2_bytes.specs.Bytes.{word}
+use Rattle.f2_commit.proofs.MarkSteps.{marks-same, marks-below_none, marks-below_more}
+use Rattle.f2_commit.proofs.slots.mark_words.Goals as goal
+
+pub loop-j-init : goal.loop-j-init
+loop-j-init c = marks-below_none c.args.marks.now (λ j a. word c.args.b.now (c.args.from + j) == a)
+
+pub loop-j-preserved : goal.loop-j-preserved
+loop-j-preserved c =
+    marks-below_more (λ j a. word c.args.b.now (c.args.from + j) == a) c.loop-j.j c.loop-j.invariant
+    (marks-same (λ a. c.word.result == a) (λ a. word c.args.b.now (c.args.from + c.loop-j.j) == a) (λ a. ap (λ w. w == a) c.word.ensures) c.mark.ensures)
