@@ -28,6 +28,8 @@ mod file_tests;
 #[cfg(test)]
 mod fsck_tests;
 #[cfg(test)]
+mod images;
+#[cfg(test)]
 mod mkfs_tests;
 #[cfg(test)]
 mod mkfs_word_tests;
@@ -35,5 +37,7 @@ mod mkfs_word_tests;
 mod table_tests;
 #[cfg(test)]
 mod tests;
+#[cfg(test)]
+mod user_image;
 #[cfg(test)]
 mod word_tests;
