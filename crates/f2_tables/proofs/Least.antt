@@ -1,7 +1,6 @@
 -- The least number that passes a test.
-use Rattle.std.proofs.Common.{◌≡◌, ◌≢◌, ℕ, zero, suc, ◌+◌, ◌≤◌, ◌<◌, Bool, true, false, cond, Some, None, refl, ap, ◌∙◌, arith}
-use Rattle.std.specs.Prelude.{find, nat_le, nat_lt, ◌&&◌, not, ◌==◌}
-use Rattle.std.specs.List.{range_with_len}
+use Rattle.std.proofs.Common.{◌≡◌, ◌≢◌, ℕ, ◌≤◌, ◌<◌, Bool, true, false, Some, None, refl, ap}
+use Rattle.std.specs.Prelude.{nat_le, nat_lt, ◌&&◌, not, ◌==◌}
 use Rattle.std.proofs.lemmas.Bool.{leb-true, le-leb, lt-ltb, ne_eqb}
 use Rattle.f2_bytes.specs.declared.layout.Layout.{Layout}
 use Rattle.f2_bytes.specs.Journal.{NatEntry}

@@ -2,6 +2,7 @@
 ghost use Rattle.std.specs.Prelude.{◌≡◌, ◌≢◌, ℕ, ◌≤◌, ◌<◌, ◌+◌, ◌-◌, ◌*◌, ◌/◌, ◌++◌, length, map, option_map, unwrap_or, is_some, true, Some, Err, IfOk, IfSome, OnOk, OnErr, IsErrOf};
 ghost use Rattle.std.specs.List.{range_with_len};
 ghost use Rattle.f2_bytes.specs.Bytes.{Image, block_at, numbers_below};
+ghost use Rattle.f2_bytes.specs.Journal.{nat_entry_at};
 ghost use Rattle.f2_bytes.specs.NodeAddressTable.{nid_limit, nat_block_address, nat_entry_in, nat_journal_entry, next_live};
 ghost use Rattle.f2_bytes.specs.Superblock.{IsInOrder};
 ghost use Rattle.f2_disk.specs.Disk.{Reads, Goes, Rose};
@@ -10,6 +11,7 @@ ghost use Rattle.f2_tables.specs.Tables.{value_at, nat_newer, IsNat, OpensNat, S
 
 use crate::TableRefusal;
 use crate::newer::Newer;
+use crate::put::put_nat;
 use f2_bytes::{Layout, NoMemory, bit_msb};
 use f2_disk::{Block, Disk};
 use f2_sum::{NatEntry, NatJournal, nat_entry_at};
@@ -191,6 +193,33 @@ impl Nat {
             }
         }
         Ok(None)
+    }
+
+    // The entries of all nids of block `k`, which was read as this block, in a block of their own.
+    fn put_entries(&self, block: &Block, k: u32) -> Block
+        requires block { k < self.now.layout.nat_half }
+        ensures { (j : ℕ) → j < 455 → nat_entry_at result (9 * j) ≡ nat_over self.now block.now (455 * k + j) }
+    {
+        let mut whole = Block::zeros();
+        prove!(k < self.layout.nat_half);
+        for j in 0..ENTRIES {
+            put_nat(&mut whole, j as usize, self.entry(block, ENTRIES * k + j));
+        }
+        whole
+    }
+
+    /// Block `k` of the table, counted from 0, with the entries of now. The block of the table is read once.
+    pub fn table_block<D: Disk>(&mut self, d: &mut D, k: u32) -> Result<Block, TableRefusal>
+        requires block { k < self.old.layout.nat_half }
+        requires lies { self.old.layout.blocks ≤ (D.state d.old).size }
+        ensures entries { IfOk result (λ b. (image : Image) → (D.state d.old).told ≡ Some image → (j : ℕ) → j < 455 → nat_entry_at b (9 * j) ≡ nat_in self.old image (455 * k + j)) }
+        ensures table { self.new ≡ self.old }
+        ensures reads { Reads (D.state d.old) (D.state d.new) }
+        ensures goes { Goes (D.state d.old) (D.state d.new) }
+        ensures fault { IsErrOf result TableRefusal.DiskFault → Rose (D.state d.old).faults (D.state d.new).faults }
+    {
+        let block = self.read(d, k)?;
+        Ok(self.put_entries(&block, k))
     }
 
     /// The numbers of the table's blocks that have an entry which stands in the journal or was set, in ascending order.

@@ -1,8 +1,8 @@
 // The segment table.
-ghost use Rattle.std.specs.Prelude.{◌≡◌, ◌≢◌, ◌≤◌, ◌<◌, ◌+◌, ◌-◌, ◌/◌, ◌++◌, ℕ, length, map, All, option_map, is_some, true, Some, Err, IfOk, OnOk, OnErr, IsErrOf};
+ghost use Rattle.std.specs.Prelude.{◌≡◌, ◌≢◌, ◌≤◌, ◌<◌, ◌+◌, ◌-◌, ◌*◌, ◌/◌, ◌++◌, ℕ, length, map, All, option_map, is_some, true, Some, Err, IfOk, OnOk, OnErr, IsErrOf};
 ghost use Rattle.std.specs.List.{range_with_len};
 ghost use Rattle.f2_bytes.specs.Bytes.{Image, block_at, numbers_below};
-ghost use Rattle.f2_bytes.specs.Journal.{SitEntry as FormatSitEntry, FitsSitEntry};
+ghost use Rattle.f2_bytes.specs.Journal.{SitEntry as FormatSitEntry, FitsSitEntry, sit_entry_at};
 ghost use Rattle.f2_bytes.specs.SegmentTable.{sit_block_address, sit_journal_entry};
 ghost use Rattle.f2_bytes.specs.Superblock.{IsInOrder};
 ghost use Rattle.f2_disk.specs.Disk.{Reads, Goes, Rose};
@@ -11,6 +11,7 @@ ghost use Rattle.f2_tables.specs.Tables.{value_at, sit_newer, IsSit, OpensSit, S
 
 use crate::TableRefusal;
 use crate::newer::Newer;
+use crate::put::put_sit;
 use f2_bytes::{Layout, NoMemory, bit_msb};
 use f2_disk::{Block, Disk};
 use f2_sum::{SitEntry, SitJournal, sit_entry_at};
@@ -166,6 +167,40 @@ impl Sit {
             self.push_entries(&block, ENTRIES * k, end, &mut entries)?;
         }
         Ok(entries)
+    }
+
+    // The entries of the segments of block `k`, which was read as this block, in a block of their own.
+    fn put_entries(&self, block: &Block, k: u32) -> Block
+        requires block { k < self.now.layout.sit_half }
+        ensures { (j : ℕ) → j < 55 → 55 * k + j < self.now.layout.segments → sit_entry_at result (74 * j) ≡ sit_over self.now block.now (55 * k + j) }
+    {
+        let mut whole = Block::zeros();
+        prove!(k < self.layout.sit_half);
+        let first = ENTRIES * k;
+        let end = self.layout.segments.min(first + ENTRIES);
+        for segno in first..end {
+            put_sit(
+                &mut whole,
+                (segno - first) as usize,
+                self.entry(block, segno),
+            );
+        }
+        whole
+    }
+
+    /// Block `k` of the table, counted from 0, with the entries of now, and zeros behind the last segment's. The block of
+    /// the table is read once.
+    pub fn table_block<D: Disk>(&mut self, d: &mut D, k: u32) -> Result<Block, TableRefusal>
+        requires block { k < self.old.layout.sit_half }
+        requires lies { self.old.layout.blocks ≤ (D.state d.old).size }
+        ensures entries { IfOk result (λ b. (image : Image) → (D.state d.old).told ≡ Some image → (j : ℕ) → j < 55 → 55 * k + j < self.old.layout.segments → sit_entry_at b (74 * j) ≡ sit_in self.old image (55 * k + j)) }
+        ensures table { self.new ≡ self.old }
+        ensures reads { Reads (D.state d.old) (D.state d.new) }
+        ensures goes { Goes (D.state d.old) (D.state d.new) }
+        ensures fault { IsErrOf result TableRefusal.DiskFault → Rose (D.state d.old).faults (D.state d.new).faults }
+    {
+        let block = self.read(d, k)?;
+        Ok(self.put_entries(&block, k))
     }
 
     /// The numbers of the table's blocks that have an entry which stands in the journal or was set, in ascending order.

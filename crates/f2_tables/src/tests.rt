@@ -6,7 +6,7 @@ ghost use Rattle.f2_disk.specs.Fakes.{memory_of};
 use crate::*;
 use f2_bytes::Layout;
 use f2_disk::{Block, Disk, MemoryDisk};
-use f2_sum::{NatJournal, NatRecord, SitEntry, SitJournal, SitRecord};
+use f2_sum::{NatJournal, NatRecord, SitEntry, SitJournal, SitRecord, nat_entry_at, sit_entry_at};
 use std::alloc::Global;
 use std::test::Fail;
 
@@ -198,6 +198,24 @@ fn segments_are_read_likewise(rt: HostRuntime) -> Result<(), Fail> {
         }
     }
     assert_eq!(rt; sit.dirty().as_deref().ok(), Some([0].as_slice()));
+    Ok(())
+}
+
+#[test]
+fn blocks_have_the_entries_of_now(rt: HostRuntime) -> Result<(), Fail> {
+    let alloc = rt.alloc();
+    let mut disk = nat_disk(alloc, &[])?;
+    let mut nat = nat_table(alloc)?;
+    assert_eq!(rt; nat.set(&mut disk, 4, node(4, 7000)), Ok(()));
+    let nodes = nat.table_block(&mut disk, 0)?;
+    // 4 writes; then the block once.
+    assert_eq!(rt; disk.calls(), 4 + 1);
+    assert_eq!(rt; nat_entry_at(nodes.bytes(), 9 * 3).addr, 5632);
+    assert_eq!(rt; nat_entry_at(nodes.bytes(), 9 * 4).addr, 7000);
+    assert_eq!(rt; nat_entry_at(nodes.bytes(), 9 * 5).addr, 5700);
+    let mut sit = sit_table(alloc)?;
+    let segments = sit.table_block(&mut disk, 0)?;
+    assert_eq!(rt; sit_entry_at(segments.bytes(), 74 * 2).count, 7);
     Ok(())
 }
 
