@@ -405,3 +405,27 @@ fn a_long_chain_of_directories_is_walked(rt: HostRuntime) -> Result<(), Fail> {
     assert_eq!(rt; text.len(), 9_006_005);
     Ok(())
 }
+
+// How many calls of the disk a check takes.
+fn calls_of_check(alloc: Global, disk: &mut MemoryDisk) -> u64 {
+    let before = disk.calls();
+    let _ = done(alloc, Job::Check, disk);
+    disk.calls().saturating_sub(before)
+}
+
+#[test]
+fn nodes_are_read_twice_and_directories_once(rt: HostRuntime) -> Result<(), Fail> {
+    let alloc = rt.alloc();
+    let mut user = user_image(alloc)?;
+    // the inode of the large directory says its own block and 18 others
+    assert_eq!(rt; load(&mut user, 36816)?.bytes()[24], 19);
+    let alone = calls_of_check(alloc, &mut new_image(alloc, 65536, 0)?);
+    let chain = calls_of_check(alloc, &mut chain_image(alloc)?);
+    let user = calls_of_check(alloc, &mut user);
+    // 3,000 more nodes, the summaries of 6 more segments, and two blocks fewer of the checkpoint pack
+    assert_eq!(rt; chain.saturating_sub(alone), 2 * 3000 + 6 - 2);
+    // 2,010 more nodes, and one of attributes, which is read once; 18 more blocks of directories, and as many segments; none
+    // of the 1,005 blocks of files
+    assert_eq!(rt; user.saturating_sub(alone), 2 * 2010 + 1 + 18 + 6 - 2);
+    Ok(())
+}
