@@ -1,3 +1,14 @@
+pub mod Carried
 pub mod ChainNodes
+pub mod Change
+pub mod Gathering
+pub mod Heads
+pub mod Kept
+pub mod NewPacks
 pub mod NodePlaces
+pub mod Refusals
 pub mod SegmentMarks
+pub mod Silent
+pub mod Steps
+pub mod TableBlocks
+pub mod Writes
