@@ -4,6 +4,7 @@ ghost use Rattle.f2_super.specs.NewCopy.{HasProfile};
 use crate::Answer;
 use crate::images::{done, load, new_image, set, store};
 use crate::jobs::Job;
+use crate::tables::{Line, lines_of};
 use crate::user_image::{chain_image, user_image};
 use f2_bytes::crc;
 use f2_disk::{Block, MemoryDisk};
@@ -24,9 +25,6 @@ fn a_new_image_meets_the_rules(rt: HostRuntime) -> Result<(), Fail> {
     assert_eq!(rt; disk.writes(), writes);
     Ok(())
 }
-
-// What is put into an image: bytes at these places of blocks.
-type Edits = &'static [(u64, usize, &'static [u8])];
 
 // Blocks as they were, the last one first put in.
 type Before = Vec<(u64, Block)>;
@@ -59,14 +57,40 @@ fn seal_pack(disk: &mut MemoryDisk, before: &mut Before) -> Result<(), Fail> {
     Ok(())
 }
 
-// Makes these changes, and answers what was there before.
-fn edit(alloc: Global, disk: &mut MemoryDisk, edits: Edits) -> Result<Before, Fail> {
-    let mut before = Vec::new(alloc);
-    for (at, offset, bytes) in edits {
-        put(disk, &mut before, *at, *offset, bytes)?;
+// Where the parts of such an image stand: the head of the pack, the summaries of logs 0 and 1, the first blocks of both
+// tables and of the summary area, the names and the inodes of the root and of `lost+found`, and where log 4 goes on.
+fn block_of(part: &str) -> Result<u64, Fail> {
+    Ok(match part {
+        "HEAD" => 512,
+        "HOT" => 513,
+        "WARM" => 514,
+        "SEGMENTS" => 1536,
+        "TABLE" => 2560,
+        "STORED" => 3584,
+        "ROOT_NAMES" => 4096,
+        "FOUND_NAMES" => 4097,
+        "ROOT" => 5632,
+        "FOUND" => 5633,
+        "NEXT" => 6144,
+        number => number.parse()?,
+    })
+}
+
+// Makes a change: the block, the place in it, and the bytes that go there.
+fn change(
+    alloc: Global,
+    disk: &mut MemoryDisk,
+    before: &mut Before,
+    text: &str,
+) -> Result<(), Fail> {
+    let mut parts = text.split_whitespace();
+    let at = block_of(parts.next().ok_or("a block")?)?;
+    let offset = parts.next().ok_or("a place")?.parse()?;
+    let mut bytes = Vec::new(alloc);
+    for part in parts {
+        bytes.push(part.parse()?)?;
     }
-    seal_pack(disk, &mut before)?;
-    Ok(before)
+    put(disk, before, at, offset, &bytes)
 }
 
 // Undoes changes.
@@ -77,287 +101,154 @@ fn undo(disk: &mut MemoryDisk, before: &Before) -> Result<(), Fail> {
     Ok(())
 }
 
-// Where the parts of such an image stand: the head of the pack, the summaries of logs 0 and 1, the first blocks of both
-// tables and of the summary area, the names and the inodes of the root and of `lost+found`, and where log 4 goes on.
-const HEAD: u64 = 512;
+// What is put into a new image with `lost+found`, and what `fsck` prints then, with a slash for the end of a line; of a long text
+// the beginning. Each of these has a row for each part of the rules that it is named after.
+const RULES_1_AND_2: &str = "\
+0 1024 0|E1.1 0 0 0 1/defects 1/
+1 1132 85|E1.2 27 0 506381209866536789 506381209866536711/defects 1/
+HEAD 132 67 0 0 0 9 0 0 0 2 0 0 0|HOT 0 9 0 0 0|HOT 4 0 0 0 0 0 0 0 0 0 0 0 0|HOT 4088 255 255 255 255|E2.1 0 0 2 0/defects 1/
+NEXT 4084 1 0 0 0 126 227 55 8|NEXT 4092 0 24 0 0|E2.2 0 0 1 0/defects 1/
+HEAD 132 73|E2.3 0 0 8 0/defects 1/
+";
 
-const HOT: u64 = 513;
+const RULE_3: &str = "\
+TABLE 37 4 0 0 0 100 0 0 0|E3.1 4 0 100 4096/defects 1/
+FOUND 4072 99|E3.2 4 0 99 4/defects 1/
+FOUND 4076 99|E3.3 4 0 99 4/defects 1/
+FOUND 4080 40|E3.4 4 0 5 0/defects 1/
+FOUND 1 1|E3.5 4 0 448 0/defects 1/
+ROOT 1 129|E3.5 3 0 33261 16384/defects 1/
+ROOT 4052 9|E3.6 3 1 4294967296 1/defects 1/
+TABLE 37 3 0 0 0 1 22 0 0|E3.3 4 0 4 3/E3.7 4 0 0 1/defects 2/
+FOUND 4052 4 0 0 0 4 0 0 0 4 0 0 0 4 0 0 0 4 0 0 0|E3.6 4 1 0 1/
+";
 
-const WARM: u64 = 514;
+const RULES_4_AND_5: &str = "\
+ROOT 360 100 0 0 0|E4.1 3 0 100 4096/defects 1/
+ROOT 364 0 16 0 0|E4.2 3 0 2 1/E4.2 3 1 2 1/defects 2/
+SEGMENTS 520 128|E5.1 7 0 1 0/E5.2 7 0 0 1/defects 2/
+SEGMENTS 518 1|E5.2 7 0 1 0/defects 1/
+SEGMENTS 1 12|E5.3 0 0 3 0/E5.3 0 1 3 0/defects 2/
+";
 
-const SEGMENTS: u64 = 1536;
+const RULES_6_AND_7: &str = "\
+HOT 0 9|E6.1 0 0 9 3/defects 1/
+HOT 5 5|E6.2 0 0 5 0/defects 1/
+HEAD 32 17 0 0 0|HEAD 84 7|HEAD 116 0|STORED 0 3 0 0 0 0 0 0 4|STORED 4091 1|E6.3 0 0 1 0/defects 1/
+HEAD 16 9|E7.1 0 0 9 4/defects 1/
+HEAD 144 9|E7.2 0 0 9 2/defects 1/
+HEAD 148 9|E7.3 0 0 9 2/defects 1/
+HEAD 32 9|E7.4 0 0 9 18/defects 1/
+";
 
-const TABLE: u64 = 2560;
+const RULES_8_AND_9: &str = "\
+HEAD 32 19|HEAD 88 0|E8.1 1 0 0 1/E8.3 1 0 1 0/E8.4 1 1 1 0/defects 3/
+HEAD 32 19|HEAD 88 3|WARM 0 3 0 0 0 0 0 0 4|E8.1 3 0 1 3/E8.2 1 0 3 1/E8.3 1 0 1 0/E8.4 1 1 1 0/defects 4/
+HEAD 116 1|E8.3 0 1 1 0/defects 1/
+HEAD 116 0|E8.3 0 0 1 0/E8.4 0 1 1 0/defects 2/
+FOUND 24 9|E9.1 4 0 9 2/defects 1/
+FOUND 12 9|E9.2 4 0 9 2/defects 1/
+FOUND 1 129|FOUND 12 1|FOUND 352 1 16 0 0 2|ROOT 12 2|ROOT_NAMES 62 1|E9.3 4 1 0 4098/defects 1/
+";
 
-const STORED: u64 = 3584;
+const RULE_10: &str = "\
+ROOT_NAMES 0 31|ROOT_NAMES 82 0 1|E10.1 3 4 256 0/defects 1/
+ROOT_NAMES 49 1|E10.2 3 1 0 1/E10.8 3 0 0 3/defects 2/
+ROOT_NAMES 52 0|E10.3 3 2 767532544 767532672/defects 1/
+ROOT 360 0 0 0 0|ROOT 376 0 16 0 0|HOT 5 4|ROOT 356 0|E10.4 3 856 1 0/E10.4 3 857 1 0/E10.4 3 858 1 0/E10.6 3 0 1 2/E10.9 3 0 4096 20480/defects 5/
+ROOT_NAMES 62 1|E10.5 3 2 1 2/defects 1/
+FOUND_NAMES 34 3|E10.7 4 0 3 4/defects 1/
+FOUND_NAMES 45 4|E10.8 4 0 4 3/defects 1/
+";
 
-const ROOT_NAMES: u64 = 4096;
-
-const FOUND_NAMES: u64 = 4097;
-
-const ROOT: u64 = 5632;
-
-const FOUND: u64 = 5633;
-
-const NEXT: u64 = 6144;
-
-// What is put into a new image with `lost+found`, and what `fsck` prints then; of a long text the first line. Each of these
-// has a row for each part of the rules that it is named after.
-const RULES_1_AND_2: [(Edits, &str); 5] = [
-    (&[(0, 1024, &[0])], "E1.1 0 0 0 1\ndefects 1\n"),
-    (
-        &[(1, 1132, &[85])],
-        "E1.2 27 0 506381209866536789 506381209866536711\ndefects 1\n",
-    ),
-    (
-        &[
-            (HEAD, 132, &[67, 0, 0, 0, 9, 0, 0, 0, 2, 0, 0, 0]),
-            (HOT, 0, &[9, 0, 0, 0]),
-            (HOT, 4, &[0, 0, 0, 0, 0, 0, 0, 0, 0, 0, 0, 0]),
-            (HOT, 4088, &[255, 255, 255, 255]),
-        ],
-        "E2.1 0 0 2 0\ndefects 1\n",
-    ),
-    (
-        &[
-            (NEXT, 4084, &[1, 0, 0, 0, 126, 227, 55, 8]),
-            (NEXT, 4092, &[0, 24, 0, 0]),
-        ],
-        "E2.2 0 0 1 0\ndefects 1\n",
-    ),
-    (&[(HEAD, 132, &[73])], "E2.3 0 0 8 0\ndefects 1\n"),
-];
-
-const RULE_3: [(Edits, &str); 9] = [
-    (
-        &[(TABLE, 37, &[4, 0, 0, 0, 100, 0, 0, 0])],
-        "E3.1 4 0 100 4096\ndefects 1\n",
-    ),
-    (&[(FOUND, 4072, &[99])], "E3.2 4 0 99 4\ndefects 1\n"),
-    (&[(FOUND, 4076, &[99])], "E3.3 4 0 99 4\ndefects 1\n"),
-    (&[(FOUND, 4080, &[40])], "E3.4 4 0 5 0\ndefects 1\n"),
-    (&[(FOUND, 1, &[1])], "E3.5 4 0 448 0\ndefects 1\n"),
-    (&[(ROOT, 1, &[129])], "E3.5 3 0 33261 16384\ndefects 1\n"),
-    (&[(ROOT, 4052, &[9])], "E3.6 3 1 4294967296 1\ndefects 1\n"),
-    (
-        &[(TABLE, 37, &[3, 0, 0, 0, 1, 22, 0, 0])],
-        "E3.3 4 0 4 3\nE3.7 4 0 0 1\ndefects 2\n",
-    ),
-    (
-        &[(
-            FOUND,
-            4052,
-            &[4, 0, 0, 0, 4, 0, 0, 0, 4, 0, 0, 0, 4, 0, 0, 0, 4, 0, 0, 0],
-        )],
-        "E3.6 4 1 0 1\n",
-    ),
-];
-
-const RULES_4_AND_5: [(Edits, &str); 5] = [
-    (
-        &[(ROOT, 360, &[100, 0, 0, 0])],
-        "E4.1 3 0 100 4096\ndefects 1\n",
-    ),
-    (
-        &[(ROOT, 364, &[0, 16, 0, 0])],
-        "E4.2 3 0 2 1\nE4.2 3 1 2 1\ndefects 2\n",
-    ),
-    (
-        &[(SEGMENTS, 520, &[128])],
-        "E5.1 7 0 1 0\nE5.2 7 0 0 1\ndefects 2\n",
-    ),
-    (&[(SEGMENTS, 518, &[1])], "E5.2 7 0 1 0\ndefects 1\n"),
-    (
-        &[(SEGMENTS, 1, &[12])],
-        "E5.3 0 0 3 0\nE5.3 0 1 3 0\ndefects 2\n",
-    ),
-];
-
-const RULES_6_AND_7: [(Edits, &str); 7] = [
-    (&[(HOT, 0, &[9])], "E6.1 0 0 9 3\ndefects 1\n"),
-    (&[(HOT, 5, &[5])], "E6.2 0 0 5 0\ndefects 1\n"),
-    (
-        &[
-            (HEAD, 32, &[17, 0, 0, 0]),
-            (HEAD, 84, &[7]),
-            (HEAD, 116, &[0]),
-            (STORED, 0, &[3, 0, 0, 0, 0, 0, 0, 4]),
-            (STORED, 4091, &[1]),
-        ],
-        "E6.3 0 0 1 0\ndefects 1\n",
-    ),
-    (&[(HEAD, 16, &[9])], "E7.1 0 0 9 4\ndefects 1\n"),
-    (&[(HEAD, 144, &[9])], "E7.2 0 0 9 2\ndefects 1\n"),
-    (&[(HEAD, 148, &[9])], "E7.3 0 0 9 2\ndefects 1\n"),
-    (&[(HEAD, 32, &[9])], "E7.4 0 0 9 18\ndefects 1\n"),
-];
-
-const RULES_8_AND_9: [(Edits, &str); 7] = [
-    (
-        &[(HEAD, 32, &[19]), (HEAD, 88, &[0])],
-        "E8.1 1 0 0 1\nE8.3 1 0 1 0\nE8.4 1 1 1 0\ndefects 3\n",
-    ),
-    (
-        &[
-            (HEAD, 32, &[19]),
-            (HEAD, 88, &[3]),
-            (WARM, 0, &[3, 0, 0, 0, 0, 0, 0, 4]),
-        ],
-        "E8.1 3 0 1 3\nE8.2 1 0 3 1\nE8.3 1 0 1 0\nE8.4 1 1 1 0\ndefects 4\n",
-    ),
-    (&[(HEAD, 116, &[1])], "E8.3 0 1 1 0\ndefects 1\n"),
-    (
-        &[(HEAD, 116, &[0])],
-        "E8.3 0 0 1 0\nE8.4 0 1 1 0\ndefects 2\n",
-    ),
-    (&[(FOUND, 24, &[9])], "E9.1 4 0 9 2\ndefects 1\n"),
-    (&[(FOUND, 12, &[9])], "E9.2 4 0 9 2\ndefects 1\n"),
-    (
-        &[
-            (FOUND, 1, &[129]),
-            (FOUND, 12, &[1]),
-            (FOUND, 352, &[1, 16, 0, 0, 2]),
-            (ROOT, 12, &[2]),
-            (ROOT_NAMES, 62, &[1]),
-        ],
-        "E9.3 4 1 0 4098\ndefects 1\n",
-    ),
-];
-
-const RULE_10: [(Edits, &str); 7] = [
-    (
-        &[(ROOT_NAMES, 0, &[31]), (ROOT_NAMES, 82, &[0, 1])],
-        "E10.1 3 4 256 0\ndefects 1\n",
-    ),
-    (
-        &[(ROOT_NAMES, 49, &[1])],
-        "E10.2 3 1 0 1\nE10.8 3 0 0 3\ndefects 2\n",
-    ),
-    (
-        &[(ROOT_NAMES, 52, &[0])],
-        "E10.3 3 2 767532544 767532672\ndefects 1\n",
-    ),
-    (
-        &[
-            (ROOT, 360, &[0, 0, 0, 0]),
-            (ROOT, 376, &[0, 16, 0, 0]),
-            (HOT, 5, &[4]),
-            (ROOT, 356, &[0]),
-        ],
-        "E10.4 3 856 1 0\nE10.4 3 857 1 0\nE10.4 3 858 1 0\nE10.6 3 0 1 2\nE10.9 3 0 4096 20480\ndefects 5\n",
-    ),
-    (&[(ROOT_NAMES, 62, &[1])], "E10.5 3 2 1 2\ndefects 1\n"),
-    (&[(FOUND_NAMES, 34, &[3])], "E10.7 4 0 3 4\ndefects 1\n"),
-    (&[(FOUND_NAMES, 45, &[4])], "E10.8 4 0 4 3\ndefects 1\n"),
-];
-
-const RULES_11_AND_12: [(Edits, &str); 3] = [
-    (
-        &[
-            (ROOT, 12, &[4]),
-            (ROOT_NAMES, 0, &[31]),
-            (ROOT_NAMES, 74, &[97, 231, 88, 233, 4, 0, 0, 0, 1, 0, 2]),
-            (ROOT_NAMES, 2416, &[120]),
-        ],
-        "E11.1 4 0 2 1\ndefects 1\n",
-    ),
-    (
-        &[
-            (FOUND, 12, &[3]),
-            (FOUND_NAMES, 0, &[7]),
-            (FOUND_NAMES, 52, &[97, 231, 88, 233, 3, 0, 0, 0, 1, 0, 2]),
-            (FOUND_NAMES, 2400, &[120]),
-        ],
-        "E11.2 3 0 1 0\nE11.2 4 0 1 0\nE11.3 3 0 1 0\ndefects 3\n",
-    ),
-    (
-        &[(FOUND, 76, &[9])],
-        "E12.1 4 0 4294967296 536870911\ndefects 1\n",
-    ),
-];
+const RULES_11_AND_12: &str = "\
+ROOT 12 4|ROOT_NAMES 0 31|ROOT_NAMES 74 97 231 88 233 4 0 0 0 1 0 2|ROOT_NAMES 2416 120|E11.1 4 0 2 1/defects 1/
+FOUND 12 3|FOUND_NAMES 0 7|FOUND_NAMES 52 97 231 88 233 3 0 0 0 1 0 2|FOUND_NAMES 2400 120|E11.2 3 0 1 0/E11.2 4 0 1 0/E11.3 3 0 1 0/defects 3/
+FOUND 76 9|E12.1 4 0 4294967296 536870911/defects 1/
+";
 
 // The same for an image without `lost+found`.
-const BARE: [(Edits, &str); 4] = [
-    (&[(HOT, 3584, &[255, 255])], "refused 7 BadSummary 65535\n"),
-    (&[(HEAD, 136, &[0])], "refused 5 NoPack\n"),
-    (
-        &[(ROOT_NAMES, 0, &[7]), (ROOT_NAMES, 60, &[0, 1])],
-        "E10.1 3 2 256 0\ndefects 1\n",
-    ),
-    (
-        &[
-            (0, 1116, &[0, 254, 255, 255]),
-            (1, 1116, &[0, 254, 255, 255]),
-        ],
-        "refused 1 NoSuper\n",
-    ),
-];
+const BARE: &str = "\
+HOT 3584 255 255|refused 7 BadSummary 65535/
+HEAD 136 0|refused 5 NoPack/
+ROOT_NAMES 0 7|ROOT_NAMES 60 0 1|E10.1 3 2 256 0/defects 1/
+0 1116 0 254 255 255|1 1116 0 254 255 255|refused 1 NoSuper/
+";
+
+// Whether `fsck` prints the text of a line for an image with its changes; they are undone.
+fn is_told(alloc: Global, disk: &mut MemoryDisk, line: &Line) -> Result<bool, Fail> {
+    let mut before = Vec::new(alloc);
+    for word in line.words.iter() {
+        change(alloc, disk, &mut before, word)?;
+    }
+    seal_pack(disk, &mut before)?;
+    let (_, out) = done(alloc, Job::Check, disk);
+    undo(disk, &before)?;
+    let mut shown = Vec::new(alloc);
+    for c in out.bytes() {
+        shown.push(if *c == b'\n' { b'/' } else { *c })?;
+    }
+    Ok(shown.starts_with(line.text.as_bytes()))
+}
 
 // The first of these texts that `fsck` doesn't print of a new image with the changes beside it.
-fn first_wrong(
-    alloc: Global,
-    features: u32,
-    rows: &[(Edits, &'static str)],
-) -> Result<Option<&'static str>, Fail>
+fn first_wrong(alloc: Global, features: u32, table: &str) -> Result<Option<String>, Fail>
     requires { HasProfile features }
 {
     let mut disk = new_image(alloc, 16384, features)?;
-    for (edits, text) in rows {
-        let before = edit(alloc, &mut disk, edits)?;
-        let (_, out) = done(alloc, Job::Check, &mut disk);
-        if !out.bytes().starts_with(text.as_bytes()) {
-            return Ok(Some(text));
+    for line in lines_of(alloc, table)? {
+        if !is_told(alloc, &mut disk, &line)? {
+            return Ok(Some(line.text));
         }
-        undo(&mut disk, &before)?;
     }
     Ok(None)
 }
 
 #[test]
 fn rules_1_and_2_are_told_broken(rt: HostRuntime) -> Result<(), Fail> {
-    assert_eq!(rt; first_wrong(rt.alloc(), 0x200, &RULES_1_AND_2)?, None);
+    assert_eq!(rt; first_wrong(rt.alloc(), 0x200, RULES_1_AND_2)?, None);
     Ok(())
 }
 
 #[test]
 fn rule_3_is_told_broken(rt: HostRuntime) -> Result<(), Fail> {
-    assert_eq!(rt; first_wrong(rt.alloc(), 0x200, &RULE_3)?, None);
+    assert_eq!(rt; first_wrong(rt.alloc(), 0x200, RULE_3)?, None);
     Ok(())
 }
 
 #[test]
 fn rules_4_and_5_are_told_broken(rt: HostRuntime) -> Result<(), Fail> {
-    assert_eq!(rt; first_wrong(rt.alloc(), 0x200, &RULES_4_AND_5)?, None);
+    assert_eq!(rt; first_wrong(rt.alloc(), 0x200, RULES_4_AND_5)?, None);
     Ok(())
 }
 
 #[test]
 fn rules_6_and_7_are_told_broken(rt: HostRuntime) -> Result<(), Fail> {
-    assert_eq!(rt; first_wrong(rt.alloc(), 0x200, &RULES_6_AND_7)?, None);
+    assert_eq!(rt; first_wrong(rt.alloc(), 0x200, RULES_6_AND_7)?, None);
     Ok(())
 }
 
 #[test]
 fn rules_8_and_9_are_told_broken(rt: HostRuntime) -> Result<(), Fail> {
-    assert_eq!(rt; first_wrong(rt.alloc(), 0x200, &RULES_8_AND_9)?, None);
+    assert_eq!(rt; first_wrong(rt.alloc(), 0x200, RULES_8_AND_9)?, None);
     Ok(())
 }
 
 #[test]
 fn rule_10_is_told_broken(rt: HostRuntime) -> Result<(), Fail> {
-    assert_eq!(rt; first_wrong(rt.alloc(), 0x200, &RULE_10)?, None);
+    assert_eq!(rt; first_wrong(rt.alloc(), 0x200, RULE_10)?, None);
     Ok(())
 }
 
 #[test]
 fn rules_11_and_12_are_told_broken(rt: HostRuntime) -> Result<(), Fail> {
-    assert_eq!(rt; first_wrong(rt.alloc(), 0x200, &RULES_11_AND_12)?, None);
+    assert_eq!(rt; first_wrong(rt.alloc(), 0x200, RULES_11_AND_12)?, None);
     Ok(())
 }
 
 #[test]
 fn broken_images_without_lost_found_are_told(rt: HostRuntime) -> Result<(), Fail> {
-    assert_eq!(rt; first_wrong(rt.alloc(), 0, &BARE)?, None);
+    assert_eq!(rt; first_wrong(rt.alloc(), 0, BARE)?, None);
     Ok(())
 }
 
@@ -365,7 +256,7 @@ fn broken_images_without_lost_found_are_told(rt: HostRuntime) -> Result<(), Fail
 fn defects_have_a_status_and_no_tree(rt: HostRuntime) -> Result<(), Fail> {
     let alloc = rt.alloc();
     let mut disk = new_image(alloc, 16384, 0x200)?;
-    let _ = edit(alloc, &mut disk, &[(ROOT, 12, &[9])])?;
+    change(alloc, &mut disk, &mut Vec::new(alloc), "ROOT 12 9")?;
     let (answer, out) = done(alloc, Job::Tree, &mut disk);
     assert_eq!(rt; answer, Answer::Defects { rule: 9, count: 1 });
     assert_eq!(rt; answer.status(), 4);

@@ -36,6 +36,8 @@ mod mkfs_word_tests;
 #[cfg(test)]
 mod table_tests;
 #[cfg(test)]
+mod tables;
+#[cfg(test)]
 mod tests;
 #[cfg(test)]
 mod user_image;
