@@ -17,7 +17,7 @@ use Rattle.f2_commit.proofs.Lookups.{given-none}
 
 -- ---- zeros
 
-zeros_at : (m i : ℕ) → slice_index (replicate m 0) i ≡ 0
+pub zeros_at : (m i : ℕ) → slice_index (replicate m 0) i ≡ 0
 zeros_at zero i = refl
 zeros_at (suc m) zero = refl
 zeros_at (suc m) (suc i) = zeros_at m i

@@ -1,5 +1,5 @@
 -- The pack that is made for a change.
-use Rattle.std.specs.Prelude.{◌≡◌, ℕ, ◌-◌, ◌<◌, List, length, drop, unwrap_or}
+use Rattle.std.specs.Prelude.{◌≡◌, ℕ, ◌+◌, ◌-◌, ◌<◌, ◌≤◌, List, length, drop, unwrap_or}
 use Rattle.f2_bytes.specs.Bytes.{Image, block_at}
 use Rattle.f2_bytes.specs.Checkpoint.{checkpoint_ver}
 use Rattle.f2_bytes.specs.Summary.{summary_entry}
@@ -19,6 +19,7 @@ pub record IsNewPack (m : Mounted) (c : Change) (p : NewPack) : Type 0 where
   pub number : p.pack ≡ 1 - m.chosen.number
   pub head : FollowsHead m c p.head
   pub version : checkpoint_ver m.chosen.head < checkpoint_ver p.head
+  pub near : checkpoint_ver p.head ≤ checkpoint_ver m.chosen.head + 2
   pub six : length p.sums ≡ 6
   pub ends : (t : ℕ) → t < 6 → drop 3584 (block_at p.sums t) ≡ summary_end (kind_of t)
 

@@ -19,22 +19,22 @@ use f2_sum::NatEntry;
 use f2_view::{Mount, ViewRefusal};
 use std::alloc::{AllocError, Global};
 
-/// What is read of a node of a chain.
+/// What is read of a node of a chain: what its footer says, and where it stands.
 #[derive(Clone, Copy, Debug, PartialEq, Eq)]
 pub struct ChainNode {
     /// The number of the node.
     pub nid: u32,
-    /// The number of its inode.
+    /// The number of its file's inode.
     pub ino: u32,
-    /// The block where it stands.
+    /// Where it stands, in blocks from the start of the image.
     pub address: u32,
-    /// Whether it has the offset of an inode.
+    /// Whether it has offset 0, which is that of an inode.
     pub is_inode: bool,
-    /// Whether an fsync wrote it.
+    /// Whether it has the mark of an fsync: one wrote it.
     pub fsync: bool,
-    /// Whether its file has a name that is to be added.
+    /// Whether it has the mark of a directory entry: its file has a name that is to be added.
     pub dentry: bool,
-    /// Whether the node address table has its inode.
+    /// Whether the node address table has a node with the number of the inode.
     pub listed: bool,
 }
 
@@ -94,7 +94,8 @@ fn add(nodes: &mut Vec<ChainNode>, node: ChainNode) -> Result<(), AllocError>
     Ok(())
 }
 
-/// Reads the nodes of a chain in order, each once. The node address table has these entries.
+/// Reads the nodes of a chain in order, each once. The node address table has these entries, from nid 0 on. It writes
+/// nothing, and fails where a read fails (`DiskFault`) or memory is short (`NoMemory`).
 pub fn chain_nodes<D: Disk>(
     alloc: Global,
     m: &Mount,

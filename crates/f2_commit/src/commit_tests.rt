@@ -7,6 +7,7 @@ ghost use Rattle.f2_commit.specs.Writes.{Follows};
 
 use crate::silent_disk::SilentDisk;
 use crate::small_image::{head, node, start, summaries, superblock, table};
+use crate::small_mount::{address_of, entry_of, summary_of};
 use crate::{Change, Counts, Ready, commit, prepare};
 use f2_disk::Block;
 use f2_pack::Log;
@@ -134,41 +135,14 @@ fn prepared(alloc: Global, m: &mut Mount, d: &mut SilentDisk) -> Result<Ready, F
     Ok(prepare(alloc, m, c, d)?)
 }
 
-// Where a node stands.
-fn address_of(m: &mut Mount, d: &mut SilentDisk, nid: u32) -> Result<u32, Fail> {
-    let l = m.layout();
-    if l.blocks > 16384 || nid >= m.nid_limit() {
-        return Err(Fail::from(ViewRefusal::DiskFault));
-    }
-    Ok(m.nat_entry(d, nid)?.addr)
-}
-
-// How many blocks of a segment are valid.
-fn count_of(m: &mut Mount, d: &mut SilentDisk, segment: u32) -> Result<u16, Fail> {
-    let l = m.layout();
-    if l.blocks > 16384 || segment >= l.segments {
-        return Err(Fail::from(ViewRefusal::DiskFault));
-    }
-    Ok(m.sit_entry(d, segment)?.count)
-}
-
-// The node that the summary of a block says.
-fn owner_of(m: &mut Mount, d: &mut SilentDisk, addr: u32) -> Result<u32, Fail> {
-    let l = m.layout();
-    if l.blocks > 16384 || addr < l.main || (addr - l.main) / 512 >= l.segments {
-        return Err(Fail::from(ViewRefusal::DiskFault));
-    }
-    Ok(m.summary(d, addr)?.nid)
-}
-
 // Whether a mount reads the change: nodes 3 and 1000 are where it says, node 7 is where the journal said; a block of segment 7 is
 // valid; and the summaries of a stored segment and of a log are those of the change.
 fn has_change(m: &mut Mount, d: &mut SilentDisk) -> Result<bool, Fail> {
     let nodes = address_of(m, d, 3)? == start(7)
         && address_of(m, d, 7)? == start(6) + 2
         && address_of(m, d, 1000)? == start(6) + 3;
-    let owners = owner_of(m, d, start(4))? == 9 && owner_of(m, d, start(7))? == 3;
-    Ok(nodes && owners && count_of(m, d, 7)? == 1)
+    let owners = summary_of(m, d, start(4))?.nid == 9 && summary_of(m, d, start(7))?.nid == 3;
+    Ok(nodes && owners && entry_of(m, d, 7)?.count == 1)
 }
 
 // Commits the change, and answers the mount that a commit answers.

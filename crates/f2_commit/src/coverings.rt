@@ -132,7 +132,7 @@ fn files_of<D: Disk>(
 }
 
 // Whether the inode in a block is that of a regular file whose extent covers one of these blocks, which ascend.
-fn covers(inode: &Block, blocks: &[MovedBlock]) -> bool
+pub(crate) fn covers(inode: &Block, blocks: &[MovedBlock]) -> bool
     ensures { IsStrictlyIncreasing (addresses_of blocks.now) → result ≡ list_any (is_covered (regular_extent inode.now)) (addresses_of blocks.now) }
 {
     if inode_field(inode, 0) / 4096 != 8 {

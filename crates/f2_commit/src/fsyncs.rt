@@ -59,9 +59,9 @@ fn ends_there(ends: &BTreeMap<u32, usize>, ino: u32, n: usize) -> bool
     }
 }
 
-/// For each node of a chain whether it counts: whether an fsync of its file ends there or later. An fsync ends at a node
-/// that it wrote, where the node address table has the node's file, or where the file's inode came by then and has both
-/// marks.
+/// For each node of a chain, in order, whether it counts: whether an fsync of its file ends there or later. An fsync ends at
+/// a node that it wrote, where the node address table has the node's file, or where the file's inode came by then and has
+/// both marks. It reads nothing of the disk, and fails for want of memory alone.
 pub fn counting(alloc: Global, nodes: &[ChainNode]) -> Result<Vec<bool>, AllocError>
     ensures counts { IfOk result (λ counts. (image : Image) → nodes.now ≡ nodes_read image → counts.items ≡ counts_of image) }
     ensures length { IfOk result (λ counts. length counts.items ≡ length nodes.now) }

@@ -1,12 +1,13 @@
 //! A change of an image as a new checkpoint: the segments that are free for it; the checkpoint prepared, without a write; and
-//! committed, so that a crash at any moment leaves the old image with its support unchanged, or the new one whole. And what
-//! moves with the blocks at some addresses.
+//! committed, so that a crash at any moment leaves the old image with its support unchanged, or the new one whole. And one
+//! such change: blocks that move to free segments.
 #![tactic(auto)]
 
 mod chain_reading;
 mod change;
 mod committing;
 mod coverings;
+mod free_nids;
 mod free_segments;
 mod fsyncs;
 mod gathering;
@@ -14,10 +15,16 @@ mod given;
 mod heads;
 mod marking;
 mod marks;
+mod moved_blocks;
+mod moved_nodes;
+mod moved_segments;
 mod preparing;
 mod ready;
+mod relocating;
 mod rolling;
 mod segments;
+mod shift_refusal;
+mod shifting;
 mod slots;
 mod sums;
 mod tables;
@@ -30,6 +37,9 @@ pub use free_segments::free;
 pub use fsyncs::counting;
 pub use preparing::prepare;
 pub use ready::Ready;
+pub use relocating::{Moved, RelocRefusal};
+pub use shift_refusal::ShiftRefusal;
+pub use shifting::shift;
 pub use weighing::{Weight, weigh};
 
 #[cfg(test)]
@@ -37,8 +47,12 @@ mod commit_tests;
 #[cfg(test)]
 mod free_tests;
 #[cfg(test)]
+mod shift_tests;
+#[cfg(test)]
 mod silent_disk;
 #[cfg(test)]
 mod small_image;
+#[cfg(test)]
+mod small_mount;
 #[cfg(test)]
 mod weigh_tests;

@@ -116,6 +116,7 @@ fn next_version(version: u64, next: &Block) -> u64
     requires { version < 2 ^ 63 }
     ensures value { result ≡ next_version version next.now }
     ensures later { version < result }
+    ensures near { result ≤ version + 2 }
 {
     if (version + 1) % 0x1_0000_0000 == footer(next).cp_ver % 0x1_0000_0000 {
         version + 2
@@ -140,6 +141,7 @@ fn new_head<D: Disk>(
     ensures six { length c.now.logs ≡ 6 }
     ensures head { IfOk result (FollowsHead m.now c.now) }
     ensures later { IfOk result (λ head. checkpoint_ver m.now.chosen.head < checkpoint_ver head) }
+    ensures near { IfOk result (λ head. checkpoint_ver head ≤ checkpoint_ver m.now.chosen.head + 2) }
     ensures version { IfOk result (λ head. (image : Image) → (D.state d.old).told ≡ Some image → checkpoint_ver head ≡ version_after image m.now c.now) }
     ensures reads { Reads (D.state d.old) (D.state d.new) }
     ensures goes { Goes (D.state d.old) (D.state d.new) }
@@ -270,6 +272,7 @@ pub fn prepare<D: Disk>(
     requires spare { (image : Image) → (D.state d.old).told ≡ Some image → All (λ w. IsFalse (is_support image ((layout_in m.old).ssa + w.0))) c.sums.items }
     ensures follows { IfOk result (Follows m.old) }
     ensures made { IfOk result (IsFor m.old c) }
+    ensures near { IfOk result (λ r. checkpoint_ver r.pack.head ≤ checkpoint_ver m.old.chosen.head + 2) }
     ensures avoids { IfOk result (λ r. (image : Image) → (D.state d.old).told ≡ Some image → AvoidsSupport image r) }
     // What the image says once this is committed.
     ensures carries { IfOk result (λ r. (image : Image) → (D.state d.old).told ≡ Some image → Carries image c r.pack (committed r image)) }

@@ -21,7 +21,7 @@ const OFFSETS: u32 = 1_039_384;
 
 // Whether a node at this offset of a file has addresses of blocks, and not nids.
 #[tactic(auto, unfolding(f2_bytes::specs::Node::offset_limit))]
-fn is_direct(offset: u32) -> bool
+pub(crate) fn is_direct(offset: u32) -> bool
     ensures { result ≡ is_direct_offset offset }
 {
     0 < offset

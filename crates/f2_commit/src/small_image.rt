@@ -36,7 +36,7 @@ const ROWS: [(usize, u32); 25] = [
 ];
 
 // The words of the head of a pack of version 1 that are not 0, each with its place. The logs fill the first six segments.
-const HEAD: [(usize, u32); 26] = [
+const HEAD: [(usize, u32); 27] = [
     (0, 1),
     (2, 6144),
     (4, 2),
@@ -54,6 +54,7 @@ const HEAD: [(usize, u32); 26] = [
     (17, 1),
     (22, 1),
     (23, 2),
+    (29, 1),
     (33, 1),
     (34, 8),
     (35, 1),
@@ -105,6 +106,20 @@ pub(crate) fn table(nodes: &[(usize, u32, u32)]) -> Block {
         if *nid < 455 {
             block.put(9 * *nid + 1, &ino.to_le_bytes());
             block.put(9 * *nid + 5, &address.to_le_bytes());
+        }
+    }
+    block
+}
+
+// The first block of the segment table, where these segments have these types, and of their first eight blocks those are
+// valid that a byte says.
+pub(crate) fn segments(entries: &[(usize, u8, u8)]) -> Block {
+    let mut block = Block::zeros();
+    for (segment, kind, marks) in entries {
+        if *segment < 24 && *kind < 64 {
+            let count = 1024 * u16::from(*kind) + marks.count_ones() as u16;
+            block.put(74 * *segment, &count.to_le_bytes());
+            block.put(74 * *segment + 2, &[*marks]);
         }
     }
     block

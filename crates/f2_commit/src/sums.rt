@@ -16,7 +16,7 @@ use f2_pack::Log;
 use f2_view::Mount;
 
 // Whether a log of the mount fills this segment.
-fn was_log(m: &Mount, segno: u32) -> bool
+pub(crate) fn was_log(m: &Mount, segno: u32) -> bool
     ensures { result ≡ is_log_segment m.now.chosen.head segno }
 {
     let logs = [m.log(0), m.log(1), m.log(2), m.log(3), m.log(4), m.log(5)];
@@ -73,7 +73,7 @@ fn front(bytes: &[u8], count: usize) -> &[u8]
 }
 
 // The summary block of a log of this kind with the entries of a block. Its journal is empty.
-fn log_block(entries: &Block, kind: u8) -> Block
+pub(crate) fn log_block(entries: &Block, kind: u8) -> Block
     ensures entries { (k : ℕ) → k < 512 → summary_entry result k ≡ summary_entry entries.now k }
     ensures end { drop 3584 result ≡ summary_end kind }
 {

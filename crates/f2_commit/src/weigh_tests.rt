@@ -2,23 +2,12 @@
 ghost use Rattle.std.specs.List.Sorted.{IsStrictlyIncreasing};
 
 use crate::silent_disk::SilentDisk;
-use crate::small_image::{head, node, start, summaries, superblock, table};
+use crate::small_image::{head, node, segments, start, summaries, superblock, table};
 use crate::{Weight, weigh};
 use f2_disk::Block;
 use f2_view::{Mount, ViewRefusal, mount};
 use std::alloc::Global;
 use std::test::Fail;
-
-// The first block of the segment table, where these segments have these types.
-fn segments(kinds: &[(usize, u16)]) -> Block {
-    let mut block = Block::zeros();
-    for (segment, kind) in kinds {
-        if *segment < 24 && *kind < 64 {
-            block.put(74 * *segment, &(*kind << 10).to_le_bytes());
-        }
-    }
-    block
-}
 
 // Node 5 of file 3 and file 6 have a block each, and the extent of file 3 covers its one. Node 9 of file 3 has none.
 fn blocks() -> [(u32, Block); 9] {
@@ -27,7 +16,7 @@ fn blocks() -> [(u32, Block); 9] {
         (0, superblock()),
         (512, head()),
         (519, head()),
-        (1536, segments(&[(6, 1), (7, 4)])),
+        (1536, segments(&[(6, 1, 0xC0), (7, 4, 0xF0)])),
         (
             2560,
             table(&[

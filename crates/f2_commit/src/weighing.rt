@@ -25,7 +25,7 @@ pub struct Weight {
 }
 
 /// How many blocks move when the blocks at these addresses of a checked image move: at most 4096 addresses of valid main
-/// blocks, ascending.
+/// blocks, ascending. It writes nothing, and fails where a read fails (`DiskFault`) or memory is short (`NoMemory`).
 pub fn weigh<D: Disk>(
     alloc: Global,
     m: &mut Mount,

@@ -42,6 +42,13 @@ returns-clause-later g c =
     let version = its_version m c.args.c.now c.block.result.now c.next_head.result c.next_version-version.result c.args.sit.now c.args.nat.now is_old c.requires.sit c.requires.nat c.next_head.ensures in
     omega (arith, version, c.next_version-version.ensures.later, c.version.ensures)
 
+pub returns-clause-near : goal.returns-clause-near
+returns-clause-near g c =
+    let m = c.args.m.now in
+    let is_old : c.block.result.now ≡ m.chosen.head = c.block.ensures.same ∙ c.head.ensures.value ∙ ap (λ (h : Held). h.head) c.chosen.ensures in
+    let version = its_version m c.args.c.now c.block.result.now c.next_head.result c.next_version-version.result c.args.sit.now c.args.nat.now is_old c.requires.sit c.requires.nat c.next_head.ensures in
+    omega (arith, version, c.next_version-version.ensures.near, c.version.ensures)
+
 pub returns-clause-version : goal.returns-clause-version
 returns-clause-version g c = λ image told.
     let m = c.args.m.now in

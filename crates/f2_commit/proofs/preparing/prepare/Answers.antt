@@ -1,6 +1,7 @@
-use Rattle.std.proofs.Common.{ℕ, ◌≤◌, ◌<◌, List, length, sym, subst, ◌∙◌, arith}
+use Rattle.std.proofs.Common.{ℕ, ◌+◌, ◌≤◌, ◌<◌, List, length, sym, subst, ◌∙◌, arith}
 use Rattle.std.specs.Prelude.{All}
 use Rattle.f2_bytes.specs.Bytes.{Block}
+use Rattle.f2_bytes.specs.Checkpoint.{checkpoint_ver}
 use Rattle.f2_bytes.specs.declared.layout.Layout.{Layout}
 use Rattle.f2_disk.proofs.Runs.{reads_then, goes_then}
 use Rattle.f2_view.specs.Mounted.{layout_in}
@@ -32,6 +33,9 @@ returns-clause-made g c =
     (plan m change r c.layout-l.ensures.kept c.layout-l.ensures.value c.in_ok-pack.ensures.pack c.in_ok-sit.sit.blocks.items c.in_ok-nat.nat.blocks.items
     c.deref-6.result.now c.deref-7.result.now c.deref-5.result.now c.deref.result.now c.deref-2.result.now c.deref-6.ensures.value c.deref-7.ensures.value c.deref-5.ensures.value c.deref.ensures.value c.deref-2.ensures.value
     c.in_ok-push_blocks.ensures.blocks c.in_ok-sit.ensures.addresses c.in_ok-nat.ensures.addresses c.new_pack.ensures.six c.requires.logs c.requires.blocks c.requires.sums c.in_ok-push_blocks.ensures.whole)
+
+pub returns-clause-near : goal.returns-clause-near
+returns-clause-near g c = subst (λ (r : Prepared). checkpoint_ver r.pack.head ≤ checkpoint_ver c.args.m.now.chosen.head + 2) (sym c.in_ok-ready.ensures) c.in_ok-pack.ensures.pack.near
 
 pub returns-clause-avoids : goal.returns-clause-avoids
 returns-clause-avoids g c = λ image told.

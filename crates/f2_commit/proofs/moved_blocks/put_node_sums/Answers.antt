@@ -1,0 +1,11 @@
+use Rattle.std.proofs.Common.{◌+◌, map, sym, arith}
+use Rattle.std.proofs.lemmas.List.{get_or-map}
+use Rattle.f2_commit.specs.Moves.{node_summary}
+use Rattle.f2_commit.proofs.PlacedBlocks.{entries-more}
+use Rattle.f2_commit.proofs.moved_blocks.put_node_sums.Goals as goal
+
+pub loop-k-preserved : goal.loop-k-preserved
+loop-k-preserved c =
+    let at = c.args.first + c.loop-k.k in
+    entries-more c.loop-k.bytes c.put_summary.new.b (map node_summary c.args.nids.now) c.args.first c.loop-k.k _ c.loop-k.invariant c.put_summary.ensures.read c.put_summary.ensures.others
+    (sym (get_or-map node_summary c.args.nids.now at 0 (node_summary 0) (omega arith)))
