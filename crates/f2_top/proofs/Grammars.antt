@@ -3,7 +3,7 @@ use Rattle.std.proofs.Common.{◌≡◌, ◌∙◌, refl, sym, ap₂, arith, Lis
 use Rattle.std.proofs.lemmas.Bool.{and_parts}
 use Rattle.std.proofs.lemmas.Slice.Eq.{bytes_eq-Decides}
 use Rattle.f2_top.specs.Parser.{IsNamed, letter, long}
-use Rattle.f2_top.specs.Tools.{dump_grammar, fsck_grammar, mkfs_grammar, is_super, job_of}
+use Rattle.f2_top.specs.Tools.{defrag_grammar, dump_grammar, fsck_grammar, mkfs_grammar, is_super, job_of}
 use Rattle.f2_top.specs.Words.{Text, read_from}
 use Rattle.f2_top.specs.declared.jobs.Job.TheVariants.{Super}
 
@@ -23,6 +23,18 @@ dump_named = record {
           (letter 105 refl refl (omega arith), (long 98 (codes "lock") refl, (long 99 (codes "at") refl, tt))),
         ),
       ),
+    ),
+  );
+  plain = tt;
+}
+
+pub defrag_named : IsNamed defrag_grammar
+defrag_named = record {
+  spelled = (
+    letter 115 refl refl (omega arith),
+    (
+      letter 108 refl refl (omega arith),
+      (letter 116 refl refl (omega arith), (letter 105 refl refl (omega arith), tt)),
     ),
   );
   plain = tt;

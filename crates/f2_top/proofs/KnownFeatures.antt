@@ -8,11 +8,11 @@ use Rattle.f2_dump.specs.declared.dumping.What.{What}
 use Rattle.f2_mkfs.specs.Labels.{label_of}
 use Rattle.f2_super.specs.NewCopy.{HasProfile}
 use Rattle.f2_top.specs.declared.jobs.Job.{Job}
-use Rattle.f2_top.specs.declared.jobs.Job.TheVariants.{Check, Tree, Super, Dump, Mkfs}
+use Rattle.f2_top.specs.declared.jobs.Job.TheVariants.{Check, Tree, Super, Dump, Defrag, Mkfs}
 use Rattle.f2_top.specs.Features.{is_comma, feature_of, features_with}
 use Rattle.f2_top.specs.Jobs.{HasKnownFeatures}
 use Rattle.f2_top.specs.Numbers.{number_of, uuid_of}
-use Rattle.f2_top.specs.Tools.{dump_choice, dump_job, dump_grammar, features_or_none, fsck_grammar, fsck_job, if_given, job_of, mkfs_by, mkfs_grammar, mkfs_job, tool_job}
+use Rattle.f2_top.specs.Tools.{defrag_by, defrag_grammar, defrag_job, dump_choice, dump_job, dump_grammar, features_or_none, fsck_grammar, fsck_job, if_given, job_of, mkfs_by, mkfs_grammar, mkfs_job, tool_job}
 use Rattle.f2_top.specs.Words.{Text, Use, is_used, uses_of, value_in}
 
 -- the bits of none, of one or of both features
@@ -132,15 +132,36 @@ image_known uses job is =
     mkfs_known (value_in (codes "SECTORS") uses) (value_in (codes "-l") uses) (value_in (codes "-U") uses) (value_in (codes "-T") uses) (value_in (codes "-O") uses)
     (is_used (codes "-f") uses) job is
 
+moved_known : (from n : Option ℕ) (down : Bool) (o : Option (Option ℕ)) (job : Job) → option_map (λ to. Defrag from n to down) o ≡ Some job → HasKnownFeatures (Some job)
+moved_known from n down None job is = cc
+moved_known from n down (Some to) job is = let same : Defrag from n to down ≡ job = cc in subst (λ (j : Job). HasKnownFeatures (Some j)) same tt
+
+defrag_known : (start blocks target : Option Text) (down : Bool) (job : Job) → defrag_by start blocks target down ≡ Some job → HasKnownFeatures (Some job)
+defrag_known start blocks target down job is =
+    then_known (λ from. option_and_then (λ n. option_map (λ to. Defrag from n to down) (if_given number_of target)) (if_given number_of blocks)) (if_given number_of start) job
+    (λ from. then_known (λ n. option_map (λ to. Defrag from n to down) (if_given number_of target)) (if_given number_of blocks) job
+    (λ n. moved_known from n down (if_given number_of target) job)) is
+
+range_known : (uses : List Use) (job : Job) → defrag_job uses ≡ Some job → HasKnownFeatures (Some job)
+range_known uses job is = defrag_known (value_in (codes "-s") uses) (value_in (codes "-l") uses) (value_in (codes "-t") uses) (is_used (codes "-i") uses) job is
+
+-- the job of the last tools
+late_known : (tool : Text) (words : List Text) (job : Job)
+    → cond (bytes_eq tool (codes "mkfs")) (option_and_then mkfs_job (uses_of mkfs_grammar words)) (cond (bytes_eq tool (codes "defrag")) (option_and_then defrag_job (uses_of defrag_grammar words)) None) ≡ Some job
+    → HasKnownFeatures (Some job)
+late_known tool words job is =
+    cond_known (bytes_eq tool (codes "mkfs")) (option_and_then mkfs_job (uses_of mkfs_grammar words)) (cond (bytes_eq tool (codes "defrag")) (option_and_then defrag_job (uses_of defrag_grammar words)) None) job
+    (then_known mkfs_job (uses_of mkfs_grammar words) job (λ uses. image_known uses job))
+    (cond_known (bytes_eq tool (codes "defrag")) (option_and_then defrag_job (uses_of defrag_grammar words)) None job
+    (then_known defrag_job (uses_of defrag_grammar words) job (λ uses. range_known uses job)) (λ none. cc)) is
+
 tool_known : (tool : Text) (words : List Text) (job : Job) → tool_job tool words ≡ Some job → HasKnownFeatures (Some job)
 tool_known tool words job is =
-    cond_known (bytes_eq tool (codes "fsck")) (option_and_then fsck_job (uses_of fsck_grammar words))
-    (cond (bytes_eq tool (codes "dump")) (option_and_then dump_job (uses_of dump_grammar words)) (cond (bytes_eq tool (codes "mkfs")) (option_and_then mkfs_job (uses_of mkfs_grammar words)) None)) job
+    let late = cond (bytes_eq tool (codes "mkfs")) (option_and_then mkfs_job (uses_of mkfs_grammar words)) (cond (bytes_eq tool (codes "defrag")) (option_and_then defrag_job (uses_of defrag_grammar words)) None) in
+    cond_known (bytes_eq tool (codes "fsck")) (option_and_then fsck_job (uses_of fsck_grammar words)) (cond (bytes_eq tool (codes "dump")) (option_and_then dump_job (uses_of dump_grammar words)) late) job
     (then_known fsck_job (uses_of fsck_grammar words) job (λ uses. fsck_known uses job))
-    (cond_known (bytes_eq tool (codes "dump")) (option_and_then dump_job (uses_of dump_grammar words)) (cond (bytes_eq tool (codes "mkfs")) (option_and_then mkfs_job (uses_of mkfs_grammar words)) None) job
-    (then_known dump_job (uses_of dump_grammar words) job (λ uses. dump_known uses job))
-    (cond_known (bytes_eq tool (codes "mkfs")) (option_and_then mkfs_job (uses_of mkfs_grammar words)) None job
-    (then_known mkfs_job (uses_of mkfs_grammar words) job (λ uses. image_known uses job)) (λ none. cc))) is
+    (cond_known (bytes_eq tool (codes "dump")) (option_and_then dump_job (uses_of dump_grammar words)) late job
+    (then_known dump_job (uses_of dump_grammar words) job (λ uses. dump_known uses job)) (late_known tool words job)) is
 
 pub job_known : (words : List Text) (job : Job) → job_of words ≡ Some job → HasKnownFeatures (Some job)
 job_known [] job is = cc

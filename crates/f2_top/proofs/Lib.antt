@@ -7,7 +7,9 @@ pub mod Known
 pub mod KnownFeatures
 pub mod Letters
 pub mod Parsed
+pub mod Moving
 pub mod Parses
+pub mod Readable
 pub mod Spelling
 pub mod Turns
 pub mod Unmounted

@@ -12,9 +12,9 @@ use Rattle.f2_top.specs.Answers.{IsWhole}
 use Rattle.f2_top.specs.Run.{Allowed, AreSizes, FitsSizes, Printed, answer_of, new_answer}
 use Rattle.f2_top.specs.Text.{IsFront, IsText, last_of}
 use Rattle.f2_top.specs.declared.answer.Answer.{Answer}
-use Rattle.f2_top.specs.declared.answer.Answer.TheVariants.{Done, Corrected, Defects, DiskFault, SinkFault, Usage, Refused, NoMemory}
+use Rattle.f2_top.specs.declared.answer.Answer.TheVariants.{Done, Corrected, Defects, NoSpace, DiskFault, SinkFault, Usage, Refused, NoMemory}
 use Rattle.f2_top.specs.declared.jobs.Job.{Job}
-use Rattle.f2_top.specs.declared.jobs.Job.TheVariants.{Check, Tree, Super, Dump, Mkfs}
+use Rattle.f2_top.specs.declared.jobs.Job.TheVariants.{Check, Tree, Super, Dump, Defrag, Mkfs}
 
 -- these answers have no last line
 no_line : (job : Option Job) → last_of job NoMemory ≡ []
@@ -23,6 +23,7 @@ no_line (Some Check) = refl
 no_line (Some Tree) = refl
 no_line (Some Super) = refl
 no_line (Some (Dump what)) = refl
+no_line (Some (Defrag start blocks target down)) = refl
 no_line (Some (Mkfs sectors label uuid second features force)) = refl
 
 no_line_sink : (job : Option Job) → last_of job SinkFault ≡ []
@@ -31,6 +32,7 @@ no_line_sink (Some Check) = refl
 no_line_sink (Some Tree) = refl
 no_line_sink (Some Super) = refl
 no_line_sink (Some (Dump what)) = refl
+no_line_sink (Some (Defrag start blocks target down)) = refl
 no_line_sink (Some (Mkfs sectors label uuid second features force)) = refl
 
 -- the whole text of an answer
@@ -38,6 +40,7 @@ text_of : (job : Option Job) (early lines front : List ℕ) (answer : Answer) �
 text_of job early lines front Done not is = ap (λ l. l ++ last_of job Done) is
 text_of job early lines front Corrected not is = ap (λ l. l ++ last_of job Corrected) is
 text_of job early lines front (Defects rule count) not is = ap (λ l. l ++ last_of job (Defects rule count)) is
+text_of job early lines front (NoSpace need have) not is = ap (λ l. l ++ last_of job (NoSpace need have)) is
 text_of job early lines front DiskFault not (n, is) = (n, ap (λ l. l ++ last_of job DiskFault) is)
 text_of job early lines front SinkFault not is = absurd (not refl)
 text_of job early lines front Usage not is = ap (λ l. l ++ last_of job Usage) is
@@ -62,6 +65,7 @@ printed : (job : Option Job) (early lines : List ℕ) (old new : State) (answer 
 printed job early lines old new Done had told text not is put = (text, is, put)
 printed job early lines old new Corrected had told text not is put = (text, is, put)
 printed job early lines old new (Defects rule count) had told text not is put = (text, is, put)
+printed job early lines old new (NoSpace need have) had told text not is put = (text, is, put)
 printed job early lines old new DiskFault had told text not is put = (text, is, put)
 printed job early lines old new SinkFault had told text not is put = absurd (not refl)
 printed job early lines old new Usage had told text not is put = (text, is, put)
@@ -86,6 +90,7 @@ sizes_whole (Some Check) size image whole sizes = tt
 sizes_whole (Some Tree) size image whole sizes = tt
 sizes_whole (Some Super) size image whole sizes = tt
 sizes_whole (Some (Dump what)) size image whole sizes = tt
+sizes_whole (Some (Defrag start blocks target down)) size image whole sizes = tt
 sizes_whole (Some (Mkfs sectors label uuid second features force)) size image whole sizes =
     subst (λ (a : Answer). FitsSizes (size_answer size sectors) a) (sym (new_whole (unless_there (not force && has_magic image) (size_answer size sectors)) whole)) sizes
 
@@ -132,6 +137,7 @@ whole_text : (job : Option Job) (early lines : List ℕ) (answer : Answer) → I
 whole_text job early lines Done whole = refl
 whole_text job early lines (Defects rule count) whole = refl
 whole_text job early lines Corrected whole = absurd whole
+whole_text job early lines (NoSpace need have) whole = absurd whole
 whole_text job early lines DiskFault whole = absurd whole
 whole_text job early lines SinkFault whole = absurd whole
 whole_text job early lines Usage whole = absurd whole

@@ -1,7 +1,7 @@
 -- The answers of a run.
-use Rattle.std.specs.Prelude.{◌≡◌, ℕ, Bool, false}
+use Rattle.std.specs.Prelude.{◌≡◌, ℕ, Bool, ◌||◌, false}
 use Rattle.f2_top.specs.declared.answer.Answer.{Answer}
-use Rattle.f2_top.specs.declared.answer.Answer.TheVariants.{Done, Corrected, Defects, DiskFault, SinkFault, Usage, Refused, NoMemory}
+use Rattle.f2_top.specs.declared.answer.Answer.TheVariants.{Done, Corrected, Defects, NoSpace, DiskFault, SinkFault, Usage, Refused, NoMemory}
 
 -- the status with which the program ends
 abbrev pub status_of : Answer → ℕ
@@ -10,6 +10,7 @@ status_of Corrected = 1
 status_of (Defects rule count) = 4
 status_of DiskFault = 8
 status_of SinkFault = 9
+status_of (NoSpace need have) = 10
 status_of Usage = 16
 status_of (Refused refusal) = 20
 status_of NoMemory = 32
@@ -20,14 +21,16 @@ IsSuccess Done = Unit {0}
 IsSuccess Corrected = Unit {0}
 IsSuccess _ = ⊥
 
--- with these answers nothing was written to the disk, whether or not the job makes an image
-abbrev pub IsIdle : Bool → Answer → Type 0
-IsIdle makes Done = makes ≡ false
-IsIdle makes (Defects rule count) = Unit {0}
-IsIdle makes Usage = Unit {0}
-IsIdle makes (Refused refusal) = Unit {0}
-IsIdle makes NoMemory = Unit {0}
-IsIdle makes _ = ⊥
+-- With these answers nothing was written to the disk. A job that makes an image, or moves blocks of one, writes where it is
+-- done, and one that moves blocks may be short of memory between two batches of them.
+abbrev pub IsIdle : Bool → Bool → Answer → Type 0
+IsIdle makes moves Done = (makes || moves) ≡ false
+IsIdle makes moves (Defects rule count) = Unit {0}
+IsIdle makes moves (NoSpace need have) = Unit {0}
+IsIdle makes moves Usage = Unit {0}
+IsIdle makes moves (Refused refusal) = Unit {0}
+IsIdle makes moves NoMemory = moves ≡ false
+IsIdle makes moves _ = ⊥
 
 -- with these answers a job has put all its lines
 abbrev pub IsWhole : Answer → Type 0

@@ -3,13 +3,14 @@ use Rattle.std.specs.Prelude.{ℕ, Bool, true, false, List, Option, Some, unwrap
 use Rattle.f2_super.specs.NewCopy.{HasProfile}
 use Rattle.f2_mkfs.specs.declared.formatting.Options.{Options}
 use Rattle.f2_top.specs.declared.jobs.Job.{Job}
-use Rattle.f2_top.specs.declared.jobs.Job.TheVariants.{Check, Tree, Dump, Mkfs}
+use Rattle.f2_top.specs.declared.jobs.Job.TheVariants.{Check, Tree, Dump, Defrag, Mkfs}
 
 -- the job takes memory, so it may be refused for want of it
 abbrev pub takes_memory : Option Job → Bool
 takes_memory (Some Check) = true
 takes_memory (Some Tree) = true
 takes_memory (Some (Dump what)) = true
+takes_memory (Some (Defrag start blocks target down)) = true
 takes_memory (Some (Mkfs sectors label uuid second features force)) = true
 takes_memory _ = false
 
@@ -17,6 +18,11 @@ takes_memory _ = false
 abbrev pub makes_image : Option Job → Bool
 makes_image (Some (Mkfs sectors label uuid second features force)) = true
 makes_image _ = false
+
+-- the job moves blocks of an image
+abbrev pub moves_blocks : Option Job → Bool
+moves_blocks (Some (Defrag start blocks target down)) = true
+moves_blocks _ = false
 
 -- no feature of the image that the job makes is one that the tools don't read
 abbrev pub HasKnownFeatures : Option Job → Type 0

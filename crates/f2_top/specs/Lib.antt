@@ -3,6 +3,7 @@ pub mod Features
 pub mod Jobs
 pub mod Numbers
 pub mod Parser
+pub mod Ranges
 pub mod Run
 pub mod Text
 pub mod Tools

@@ -1,7 +1,7 @@
 -- What a run answers, what it prints, and what it leaves on the disk.
 use Rattle.std.specs.Prelude.{◌≡◌, ◌≢◌, ◌⊎◌, ℕ, Bool, ◌&&◌, not, true, false, if◌then◌else◌, List, [], ◌++◌, length, map, flat_map, take, Option, Some, None, Result, Ok, Err}
 use Rattle.f2_bytes.specs.Bytes.{Image}
-use Rattle.f2_bytes.specs.Superblock.{has_twins, is_loadable}
+use Rattle.f2_bytes.specs.Superblock.{has_twins, is_loadable, layout}
 use Rattle.f2_disk.specs.Disk.{State, Rose}
 use Rattle.f2_super.specs.Load.{loaded, repaired}
 use Rattle.f2_super.specs.declared.sizes.Geometry.{Geometry}
@@ -25,12 +25,14 @@ use Rattle.f2_mkfs.specs.declared.formatting.FormatRefusal.{FormatRefusal}
 use Rattle.f2_mkfs.specs.declared.formatting.FormatRefusal.TheVariants as new
 use Rattle.f2_mkfs.specs.declared.formatting.Options.{Options}
 use Rattle.f2_top.specs.Jobs.{options_of}
+use Rattle.f2_top.specs.Ranges.{aim_of, outside_aim, space_answer, unless_failing, unless_outside, lines_unless_failing, moves_line, LeavesEmptied, HasNone}
 use Rattle.f2_top.specs.Text.{IsText, defect_line, defect_lines, size_line}
 use Rattle.f2_top.specs.declared.answer.Answer.{Answer}
 use Rattle.f2_top.specs.declared.answer.Answer.TheVariants.{Done, Corrected, Defects, DiskFault, SinkFault, Usage, Refused, NoMemory}
 use Rattle.f2_top.specs.declared.answer.Refusal.TheVariants.{NoSuper, Unsupported, TooLarge, Truncated, NoPack, VersionLimit, BadSummary, DeviceTooSmall, TooSmall, OutOfRange, NoSuchNode, Exists}
 use Rattle.f2_top.specs.declared.jobs.Job.{Job}
-use Rattle.f2_top.specs.declared.jobs.Job.TheVariants.{Check, Tree, Super, Dump, Mkfs}
+use Rattle.f2_top.specs.declared.moves.Wish.{Wish}
+use Rattle.f2_top.specs.declared.jobs.Job.TheVariants.{Check, Tree, Super, Dump, Defrag, Mkfs}
 
 -- what repairing the superblock copies answers to what was loaded, without a fault
 abbrev pub super_answer : Result Found SuperRefusal → Answer
@@ -109,6 +111,26 @@ abbrev pub checked_lines : Bool → Image → Result Mounted MountRefusal → Li
 checked_lines with_tree image (Ok m) = verdict_lines with_tree image (least_failing image)
 checked_lines with_tree image (Err refusal) = []
 
+-- what emptying a range answers to what was mounted of an image, without a fault
+abbrev pub move_answer : Wish → Image → Result Mounted MountRefusal → Answer
+move_answer w image (Ok m) =
+    unless_outside (outside_aim (layout_in m) w) (unless_failing image (least_failing image) (space_answer image (aim_of (layout_in m) w)))
+move_answer w image (Err refusal) = mount_answer refusal
+
+-- its lines
+abbrev pub move_lines : Wish → Image → Result Mounted MountRefusal → List ℕ
+move_lines w image (Ok m) = lines_unless_failing image (least_failing image) (moves_line image (aim_of (layout_in m) w))
+move_lines w image (Err refusal) = []
+
+-- and what it leaves of the image
+abbrev pub LeavesMoved : Wish → Image → Result Mounted MountRefusal → Image → Type 0
+LeavesMoved w image (Ok m) left = LeavesEmptied image (aim_of (layout_in m) w) (move_answer w image (Ok m)) left
+LeavesMoved w image (Err refusal) left = left ≡ image
+
+-- what words ask for
+abbrev pub wish_of : Option ℕ → Option ℕ → Option ℕ → Bool → Wish
+wish_of start blocks target down = record { start = start; blocks = blocks; target = target; down = down }
+
 -- what making an image answers, without a fault
 abbrev pub new_answer : Result Geometry FormatRefusal → Answer
 new_answer (Ok g) = Done
@@ -145,12 +167,14 @@ answer_of (Some Check) size image = check_answer image (mounted size image)
 answer_of (Some Tree) size image = check_answer image (mounted size image)
 answer_of (Some Super) size image = super_answer (loaded size image)
 answer_of (Some (Dump what)) size image = dump_answer what image (mounted size image)
+answer_of (Some (Defrag start blocks target down)) size image = move_answer (wish_of start blocks target down) image (mounted size image)
 answer_of (Some (Mkfs sectors label uuid second features force)) size image =
     new_answer (unless_there (not force && has_magic image) (size_answer size sectors))
 
 -- what it leaves of an image; a new one has this moment and this uuid where the job gives none
 abbrev pub Leaves : Option Job → ℕ → List ℕ → ℕ → Image → Image → Type 0
 Leaves (Some Super) moment id size image left = left ≡ super_image (loaded size image) image
+Leaves (Some (Defrag start blocks target down)) moment id size image left = LeavesMoved (wish_of start blocks target down) image (mounted size image) left
 Leaves (Some (Mkfs sectors label uuid second features force)) moment id size image left =
     let o = options_of sectors label uuid second features force moment id in LeavesNew o (format_answer size image o) image left
 Leaves job moment id size image left = left ≡ image
@@ -161,11 +185,13 @@ IsLeft job moment id size image told = (left : Image) × (told ≡ Some left) ×
 
 -- A job's lines, and before them those that it may have put where it ended early: of a check none but the tree's, of a
 -- dump all, and none of a job that writes. A check's and a dump's are those of an image, which the disk then has to tell, and
--- a new image's say its sizes.
+-- so is what moved; a new image's say its sizes.
 abbrev pub AreLines : Option Job → State → List ℕ → List ℕ → Type 0
 AreLines (Some Check) old early lines = (image : Image) × (old.told ≡ Some image) × (early ≡ clean_lines false image) × (lines ≡ checked_lines false image (mounted old.size image))
 AreLines (Some Tree) old early lines = (image : Image) × (old.told ≡ Some image) × (early ≡ clean_lines true image) × (lines ≡ checked_lines true image (mounted old.size image))
 AreLines (Some (Dump what)) old early lines = (image : Image) × (old.told ≡ Some image) × (early ≡ lines) × (lines ≡ mounted_lines what image (mounted old.size image))
+AreLines (Some (Defrag start blocks target down)) old early lines =
+    (image : Image) × (old.told ≡ Some image) × (early ≡ []) × (lines ≡ move_lines (wish_of start blocks target down) image (mounted old.size image))
 AreLines (Some (Mkfs sectors label uuid second features force)) old early lines = (early ≡ []) × (lines ≡ new_lines (size_answer old.size sectors))
 AreLines job old early lines = (early ≡ []) × (lines ≡ [])
 
@@ -173,6 +199,11 @@ AreLines job old early lines = (early ≡ []) × (lines ≡ [])
 abbrev pub AreSizes : Option Job → ℕ → Answer → Type 0
 AreSizes (Some (Mkfs sectors label uuid second features force)) size answer = FitsSizes (size_answer size sectors) answer
 AreSizes job size answer = Unit {0}
+
+-- a job that moves blocks finds none that it may move
+abbrev pub MovesNone : Option Job → Image → Type 0
+MovesNone (Some (Defrag start blocks target down)) image = HasNone image (aim_of (layout image) (wish_of start blocks target down))
+MovesNone job image = ⊥
 
 -- What a job may answer, but for a fault of the sink.
 pub record Allowed (job : Option Job) (old new : State) (answer : Answer) : Type 0 where

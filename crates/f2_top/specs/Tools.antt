@@ -8,7 +8,7 @@ use Rattle.f2_top.specs.Features.{features_of}
 use Rattle.f2_top.specs.Numbers.{number_of, ino_of, range_of, uuid_of}
 use Rattle.f2_top.specs.Words.{Text, Grammar, Use, flag, is_used, uses_of, value_in, valued}
 use Rattle.f2_top.specs.declared.jobs.Job.{Job}
-use Rattle.f2_top.specs.declared.jobs.Job.TheVariants.{Check, Tree, Super, Dump, Mkfs}
+use Rattle.f2_top.specs.declared.jobs.Job.TheVariants.{Check, Tree, Super, Dump, Defrag, Mkfs}
 
 -- a tool with no option
 abbrev pub no_grammar : Grammar
@@ -92,6 +92,23 @@ mkfs_job uses =
     mkfs_by (value_in (codes "SECTORS") uses) (value_in (codes "-l") uses) (value_in (codes "-U") uses) (value_in (codes "-T") uses)
     (value_in (codes "-O") uses) (is_used (codes "-f") uses)
 
+-- ---- defrag [-s START] [-l BLOCKS] [-t TARGET] [-i]
+
+abbrev pub defrag_grammar : Grammar
+defrag_grammar = record {
+  options = valued (codes "-s") ∷ valued (codes "-l") ∷ valued (codes "-t") ∷ flag (codes "-i") ∷ [];
+  positional = None;
+}
+
+-- the range that these texts ask for, if each is a number
+abbrev pub defrag_by : Option Text → Option Text → Option Text → Bool → Option Job
+defrag_by start blocks target down =
+    option_and_then (λ from. option_and_then (λ n. option_map (λ to. Defrag from n to down)
+    (if_given number_of target)) (if_given number_of blocks)) (if_given number_of start)
+
+abbrev pub defrag_job : List Use → Option Job
+defrag_job uses = defrag_by (value_in (codes "-s") uses) (value_in (codes "-l") uses) (value_in (codes "-t") uses) (is_used (codes "-i") uses)
+
 -- ---- all words
 
 -- the job that the words of a tool name, if any
@@ -99,7 +116,8 @@ abbrev pub tool_job : Text → List Text → Option Job
 tool_job tool words =
     if bytes_eq tool (codes "fsck") then option_and_then fsck_job (uses_of fsck_grammar words)
     else (if bytes_eq tool (codes "dump") then option_and_then dump_job (uses_of dump_grammar words)
-    else (if bytes_eq tool (codes "mkfs") then option_and_then mkfs_job (uses_of mkfs_grammar words) else None))
+    else (if bytes_eq tool (codes "mkfs") then option_and_then mkfs_job (uses_of mkfs_grammar words)
+    else (if bytes_eq tool (codes "defrag") then option_and_then defrag_job (uses_of defrag_grammar words) else None)))
 
 -- and all words: the first of them names the tool
 abbrev pub job_of : List Text → Option Job

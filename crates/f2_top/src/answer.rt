@@ -8,6 +8,8 @@ pub enum Answer {
     Corrected,
     /// The image fails this rule, and none before it, in `count` places.
     Defects { rule: u8, count: u64 },
+    /// The moves need `need` free segments, and there are `have`. Nothing was written.
+    NoSpace { need: u64, have: u64 },
     /// A call of the disk failed.
     DiskFault,
     /// A put of the sink failed.
@@ -64,6 +66,7 @@ impl Answer {
             Answer::Defects { .. } => 4,
             Answer::DiskFault => 8,
             Answer::SinkFault => 9,
+            Answer::NoSpace { .. } => 10,
             Answer::Usage => 16,
             Answer::Refused(_) => 20,
             Answer::NoMemory => 32,

@@ -43,7 +43,13 @@ fn defect_text(alloc: Global, rule: u8, list: &[Defect]) -> Result<Vec<u8>, Allo
 }
 
 // Puts the lines of the defects that are listed, of so many by a rule.
-fn put_defects<O: Sink>(alloc: Global, rule: u8, list: &[Defect], count: u64, out: &mut O) -> Answer
+pub fn put_defects<O: Sink>(
+    alloc: Global,
+    rule: u8,
+    list: &[Defect],
+    count: u64,
+    out: &mut O,
+) -> Answer
     ensures kind { (result ≡ Answer.Defects rule count) ⊎ ((result ≡ Answer.NoMemory) ⊎ (result ≡ Answer.SinkFault)) }
     ensures sink { result ≡ Answer.SinkFault → Rose (O.faults out.old) (O.faults out.new) }
     ensures lines { (had : List ℕ) → O.told out.old ≡ Some had → (early : List ℕ)
@@ -106,7 +112,7 @@ fn put_clean<D: Disk, O: Sink>(
 }
 
 // Puts the lines of a verdict.
-fn put_verdict<D: Disk, O: Sink>(
+pub fn put_verdict<D: Disk, O: Sink>(
     alloc: Global,
     tree: bool,
     verdict: Verdict,

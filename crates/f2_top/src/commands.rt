@@ -3,7 +3,7 @@ ghost use Rattle.std.specs.Prelude.{◌≡◌, Some, IfOk, false, codes};
 ghost use Rattle.clap.specs.Simple.{app_of, new_rule, with_rule};
 ghost use Rattle.clap.specs.Walk.{rule_of};
 ghost use Rattle.f2_top.specs.Parser.{app_of_grammar};
-ghost use Rattle.f2_top.specs.Tools.{no_grammar, fsck_grammar, dump_grammar, mkfs_grammar};
+ghost use Rattle.f2_top.specs.Tools.{no_grammar, fsck_grammar, dump_grammar, defrag_grammar, mkfs_grammar};
 
 use clap::{Arg, ArgAction, Command};
 use std::alloc::{AllocError, Global};
@@ -69,6 +69,17 @@ pub fn dump<'a>(alloc: Global) -> Result<Command<'a>, AllocError>
     let command = by_letter(alloc, command, "-i", 'i', ArgAction::Set)?;
     let command = by_name(alloc, command, "--block", "block", ArgAction::Set)?;
     by_name(alloc, command, "--cat", "cat", ArgAction::Set)
+}
+
+/// `defrag`.
+pub fn defrag<'a>(alloc: Global) -> Result<Command<'a>, AllocError>
+    ensures { IfOk result (λ c. app_of c ≡ app_of_grammar (codes "defrag") defrag_grammar) }
+{
+    let command = tool(alloc, "defrag");
+    let command = by_letter(alloc, command, "-s", 's', ArgAction::Set)?;
+    let command = by_letter(alloc, command, "-l", 'l', ArgAction::Set)?;
+    let command = by_letter(alloc, command, "-t", 't', ArgAction::Set)?;
+    by_letter(alloc, command, "-i", 'i', ArgAction::SetTrue)
 }
 
 /// `mkfs`.

@@ -13,6 +13,18 @@ pub enum Job {
     Super,
     /// `dump ..`: put what the image holds as lines.
     Dump(What),
+    /// `defrag ..`: empty a range of block addresses.
+    Defrag {
+        /// Its first address; the first of the main area where none is given, or one before that.
+        start: Option<u64>,
+        /// How many addresses it has; 512 where none is given, or 0.
+        blocks: Option<u64>,
+        /// The address from whose segment on free segments are taken; the end of the range where none is given, or with `down`
+        /// the address before it.
+        target: Option<u64>,
+        /// They are taken downward.
+        down: bool,
+    },
     /// `mkfs ..`: make a new image.
     Mkfs {
         /// Its length in sectors of 512 bytes; the whole disk where none is given.

@@ -9,6 +9,7 @@ mod dumps;
 mod features;
 mod jobs;
 mod mounts;
+mod moves;
 mod new_images;
 mod numbers;
 mod report;
@@ -21,6 +22,8 @@ pub use jobs::{Job, WordsRefusal};
 pub use top::run;
 pub use words::job;
 
+#[cfg(test)]
+mod defrag_tests;
 #[cfg(test)]
 mod dump_tests;
 #[cfg(test)]

@@ -72,7 +72,7 @@ pub fn make_image<D: Disk, O: Sink>(
     // The image that it leaves.
     ensures image { (image : Image) → (D.state disk.old).told ≡ Some image → result ≢ Answer.DiskFault → result ≢ Answer.NoMemory
         → (left : Image) × ((D.state disk.new).told ≡ Some left) × LeavesNew options.now (format_answer (D.state disk.old).size image options.now) image left }
-    ensures idle { IsIdle true result → Reads (D.state disk.old) (D.state disk.new) }
+    ensures idle { IsIdle true false result → Reads (D.state disk.old) (D.state disk.new) }
     ensures durable { IsSuccess result → (D.state disk.old).pending ≡ false → (D.state disk.new).pending ≡ false }
     ensures goes { Goes (D.state disk.old) (D.state disk.new) }
     ensures sink_goes { O.faults out.old ≤ O.faults out.new }

@@ -1,7 +1,7 @@
 // The lines that a run puts.
 ghost use Rattle.std.specs.Prelude.{◌≡◌, ◌++◌, decimal, codes, IsOk};
 ghost use Rattle.f2_disk.specs.Sink.{Puts};
-ghost use Rattle.f2_top.specs.Text.{refusal_line, last_line, last_of};
+ghost use Rattle.f2_top.specs.Text.{moved_line, refusal_line, last_line, last_of};
 
 use crate::jobs::Job;
 use crate::{Answer, Refusal};
@@ -35,6 +35,14 @@ pub fn put_pair<O: Sink>(
 {
     put_number(out, before, first, between)?;
     put_number(out, b"", second, b"\n")
+}
+
+/// Puts the line of what moved.
+pub fn put_moved<O: Sink>(out: &mut O, blocks: u64, batches: u64) -> Result<(), SinkFault>
+    ensures { Puts (moved_line blocks batches) (O.told out.old) (O.told out.new) (O.faults out.old) (O.faults out.new) result }
+{
+    put_number(out, b"moved ", blocks, b"")?;
+    put_number(out, b" blocks in ", batches, b" batches\n")
 }
 
 fn put_refusal<O: Sink>(out: &mut O, refusal: &Refusal) -> Result<(), SinkFault>
@@ -79,6 +87,9 @@ fn put_line<O: Sink>(out: &mut O, answer: &Answer) -> Result<(), SinkFault>
         Answer::Done => out.put(b"done\n"),
         Answer::Corrected => out.put(b"corrected\n"),
         Answer::Defects { count, .. } => put_number(out, b"defects ", *count, b"\n"),
+        Answer::NoSpace { need, have } => {
+            put_pair(out, b"no space: need ", *need, b", have ", *have)
+        }
         Answer::DiskFault => out.put(b"disk fault\n"),
         Answer::Usage => out.put(b"usage: f2tools IMAGE TOOL OPTIONS\n"),
         Answer::Refused(refusal) => put_refusal(out, refusal),

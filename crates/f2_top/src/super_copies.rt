@@ -23,7 +23,7 @@ pub fn repair_copies<D: Disk>(disk: &mut D) -> Answer
     ensures image { (image : Image) → (D.state disk.old).told ≡ Some image → result ≢ Answer.DiskFault
         → (D.state disk.new).told ≡ Some (super_image (loaded (D.state disk.old).size image) image) }
     ensures twins { IsSuccess result → (image : Image) → (D.state disk.new).told ≡ Some image → has_twins image ≡ true }
-    ensures idle { IsIdle false result → Reads (D.state disk.old) (D.state disk.new) }
+    ensures idle { IsIdle false false result → Reads (D.state disk.old) (D.state disk.new) }
     ensures durable { IsSuccess result → (D.state disk.old).pending ≡ false → (D.state disk.new).pending ≡ false }
 
     // A crash at any moment leaves an image with the same superblock.

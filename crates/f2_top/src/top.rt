@@ -5,16 +5,18 @@ ghost use Rattle.f2_bytes.specs.Superblock.{has_twins};
 ghost use Rattle.f2_disk.specs.Disk.{Reads, Goes, Rose};
 ghost use Rattle.f2_super.specs.Load.{KeepsSuper};
 ghost use Rattle.f2_top.specs.Answers.{IsSuccess, IsIdle, IsWhole};
-ghost use Rattle.f2_top.specs.Jobs.{takes_memory, makes_image, HasKnownFeatures};
+ghost use Rattle.f2_top.specs.Jobs.{takes_memory, makes_image, moves_blocks, HasKnownFeatures};
 ghost use Rattle.f2_top.specs.Tools.{job_of, is_super};
 ghost use Rattle.f2_top.specs.Text.{IsFront};
-ghost use Rattle.f2_top.specs.Run.{answer_of, IsLeft, AreLines, AreSizes, Allowed, IsAnswered, Printed};
-ghost use Rattle.f2_top.specs.declared.jobs.Job.TheVariants.{Check, Tree, Super, Dump, Mkfs};
+ghost use Rattle.f2_top.specs.Ranges.{KeepsTree, KeepsTreeAlways};
+ghost use Rattle.f2_top.specs.Run.{answer_of, IsLeft, AreLines, AreSizes, Allowed, IsAnswered, MovesNone, Printed};
+ghost use Rattle.f2_top.specs.declared.jobs.Job.TheVariants.{Check, Tree, Super, Dump, Defrag, Mkfs};
 
 use crate::Answer;
 use crate::checks::check_image;
 use crate::dumps::dump_image;
 use crate::jobs::{Job, WordsRefusal};
+use crate::moves::{Wish, empty_range};
 use crate::new_images::make_image;
 use crate::report::put_last;
 use crate::super_copies::repair_copies;
@@ -45,10 +47,13 @@ fn answer<D: Disk, O: Sink>(
     ensures image { (image : Image) → (D.state disk.old).told ≡ Some image → result ≢ Answer.DiskFault → result ≢ Answer.NoMemory
         → IsLeft job.now moment id (D.state disk.old).size image (D.state disk.new).told }
     ensures twins { IsSuccess result → job.now ≡ Some Super → (image : Image) → (D.state disk.new).told ≡ Some image → has_twins image ≡ true }
-    ensures idle { IsIdle (makes_image job.now) result → Reads (D.state disk.old) (D.state disk.new) }
-    ensures unwritten { job.now ≢ Some Super → makes_image job.now ≡ false → Reads (D.state disk.old) (D.state disk.new) }
+    ensures idle { IsIdle (makes_image job.now) (moves_blocks job.now) result → Reads (D.state disk.old) (D.state disk.new) }
+    ensures unwritten { job.now ≢ Some Super → makes_image job.now ≡ false → moves_blocks job.now ≡ false → Reads (D.state disk.old) (D.state disk.new) }
+    ensures none { (image : Image) → (D.state disk.old).told ≡ Some image → MovesNone job.now image → Reads (D.state disk.old) (D.state disk.new) }
     ensures durable { IsSuccess result → (D.state disk.old).pending ≡ false → (D.state disk.new).pending ≡ false }
-    ensures any_moment { makes_image job.now ≡ false → KeepsSuper (D.state disk.old) (D.state disk.new) }
+    ensures either { moves_blocks job.now ≡ true → KeepsTree (D.state disk.old) (D.state disk.new) }
+    ensures moving { moves_blocks job.now ≡ true → KeepsTreeAlways (D.state disk.old) (D.state disk.new) }
+    ensures any_moment { makes_image job.now ≡ false → moves_blocks job.now ≡ false → KeepsSuper (D.state disk.old) (D.state disk.new) }
     ensures goes { Goes (D.state disk.old) (D.state disk.new) }
     ensures sink_goes { O.faults out.old ≤ O.faults out.new }
 {
@@ -57,6 +62,22 @@ fn answer<D: Disk, O: Sink>(
         Some(Job::Tree) => check_image(alloc, true, disk, out),
         Some(Job::Super) => repair_copies(disk),
         Some(Job::Dump(what)) => dump_image(alloc, *what, disk, out),
+        Some(
+            Job::Defrag {
+                start,
+                blocks,
+                target,
+                down,
+            },
+        ) => {
+            let wish = Wish {
+                start: *start,
+                blocks: *blocks,
+                target: *target,
+                down: *down,
+            };
+            empty_range(alloc, &wish, disk, out)
+        }
         Some(
             Job::Mkfs {
                 sectors,
@@ -100,13 +121,16 @@ pub fn perform<D: Disk, O: Sink>(
         → (result ≡ Answer.SinkFault → ¬ (Rose (D.state disk.old).faults (D.state disk.new).faults))
         → IsLeft job.now moment id (D.state disk.old).size image (D.state disk.new).told }
     ensures twins { IsSuccess result → job.now ≡ Some Super → (image : Image) → (D.state disk.new).told ≡ Some image → has_twins image ≡ true }
-    ensures idle { IsIdle (makes_image job.now) result → Reads (D.state disk.old) (D.state disk.new) }
-    ensures reads { job.now ≢ Some Super → makes_image job.now ≡ false → Reads (D.state disk.old) (D.state disk.new) }
+    ensures idle { IsIdle (makes_image job.now) (moves_blocks job.now) result → Reads (D.state disk.old) (D.state disk.new) }
+    ensures reads { job.now ≢ Some Super → makes_image job.now ≡ false → moves_blocks job.now ≡ false → Reads (D.state disk.old) (D.state disk.new) }
+    ensures none { (image : Image) → (D.state disk.old).told ≡ Some image → MovesNone job.now image → Reads (D.state disk.old) (D.state disk.new) }
     ensures durable { IsSuccess result → (D.state disk.old).pending ≡ false → (D.state disk.new).pending ≡ false }
     ensures complete { (image : Image) → (D.state disk.old).told ≡ Some image
         → ¬ (Rose (D.state disk.old).faults (D.state disk.new).faults) → ¬ (Rose (O.faults out.old) (O.faults out.new))
         → IsAnswered job.now (D.state disk.old).size image result }
-    ensures any_moment { makes_image job.now ≡ false → KeepsSuper (D.state disk.old) (D.state disk.new) }
+    ensures either { moves_blocks job.now ≡ true → KeepsTree (D.state disk.old) (D.state disk.new) }
+    ensures moving { moves_blocks job.now ≡ true → KeepsTreeAlways (D.state disk.old) (D.state disk.new) }
+    ensures any_moment { makes_image job.now ≡ false → moves_blocks job.now ≡ false → KeepsSuper (D.state disk.old) (D.state disk.new) }
     ensures goes { Goes (D.state disk.old) (D.state disk.new) }
     ensures sink_goes { O.faults out.old ≤ O.faults out.new }
 {
@@ -121,11 +145,11 @@ pub fn perform<D: Disk, O: Sink>(
 ///
 /// The words are those of the command line after the image, the tool and its options; docs/COMMANDS.md has them. `moment`
 /// is the second of the clock and `id` a uuid: a new image has them where the words give none, and no other job looks at
-/// them. `fsck --super` and `mkfs` put nothing before the disk's last write, so a fault of the sink leaves on the disk what
-/// the job's own answer leaves, and exactly `fsck --super` takes no memory. A dump of a number that lies outside, or that
+/// them. `fsck --super`, `defrag` and `mkfs` put nothing before the disk's last write, so a fault of the sink leaves on the disk
+/// what the job's own answer leaves, and exactly `fsck --super` takes no memory. A dump of a number that lies outside, or that
 /// the image has no inode of, puts nothing but its last line, and so does an image that isn't made. A check puts a line for
-/// each defect that it lists; the tree is put of an image without defects alone. Once the words are found to name a job, the
-/// disk's first call is for its size.
+/// each defect that it lists, and so does `defrag` where it finds some; the tree is put of an image without defects alone. Once
+/// the words are found to name a job, the disk's first call is for its size.
 #[tactic(auto, using(crate::proofs::KnownFeatures::job_known))]
 pub fn run<D: Disk, O: Sink>(
     alloc: Global,
@@ -140,7 +164,7 @@ pub fn run<D: Disk, O: Sink>(
     ensures sink_fault { result ≡ Answer.SinkFault → Rose (O.faults out.old) (O.faults out.new) }
     ensures memory { is_super (map string_bytes words.now) ≡ true → result ≢ Answer.NoMemory }
 
-    // What it prints. The lines of a check and of a dump are those of an image that the disk tells.
+    // What it prints. The lines of a check, of a dump and of what moved are those of an image that the disk tells.
     ensures text { (had : List ℕ) → O.told out.old ≡ Some had → (early lines : List ℕ) → AreLines (job_of (map string_bytes words.now)) (D.state disk.old) early lines
         → Printed (job_of (map string_bytes words.now)) early lines (D.state disk.old) (D.state disk.new) result had (O.told out.new) }
 
@@ -150,22 +174,30 @@ pub fn run<D: Disk, O: Sink>(
         → IsLeft (job_of (map string_bytes words.now)) moment id (D.state disk.old).size image (D.state disk.new).told }
     ensures twins { IsSuccess result → (job_of (map string_bytes words.now)) ≡ Some Super → (image : Image) → (D.state disk.new).told ≡ Some image → has_twins image ≡ true }
 
-    // With these answers, and unless it repairs the superblock copies or makes an image, it writes nothing.
-    ensures idle { IsIdle (makes_image (job_of (map string_bytes words.now))) result → Reads (D.state disk.old) (D.state disk.new) }
-    ensures reads { (job_of (map string_bytes words.now)) ≢ Some Super → makes_image (job_of (map string_bytes words.now)) ≡ false → Reads (D.state disk.old) (D.state disk.new) }
+    // With these answers, and unless it repairs the superblock copies, makes an image or moves blocks, it writes nothing; nor
+    // does it where no block of the range is valid, or the image fails a rule.
+    ensures idle { IsIdle (makes_image (job_of (map string_bytes words.now))) (moves_blocks (job_of (map string_bytes words.now))) result → Reads (D.state disk.old) (D.state disk.new) }
+    ensures reads { (job_of (map string_bytes words.now)) ≢ Some Super → makes_image (job_of (map string_bytes words.now)) ≡ false → moves_blocks (job_of (map string_bytes words.now)) ≡ false → Reads (D.state disk.old) (D.state disk.new) }
+    ensures none { (image : Image) → (D.state disk.old).told ≡ Some image → MovesNone (job_of (map string_bytes words.now)) image → Reads (D.state disk.old) (D.state disk.new) }
     ensures durable { IsSuccess result → (D.state disk.old).pending ≡ false → (D.state disk.new).pending ≡ false }
 
     // Unless the disk or the sink has a fault or memory is short, it answers by the image: fsck --super on an image that can
     // be loaded Done exactly where both superblock copies pass and agree, else Corrected; fsck and fsck -t on an image that can
     // be mounted Done exactly where it meets all rules, else Defects with the least rule that it fails; a dump of such an image
     // Done, or OutOfRange exactly where a number of it lies outside, or NoSuchNode exactly where it asks for an inode or a file
-    // that the image lacks; mkfs Done, or the first refusal for the sizes or for what the disk holds.
+    // that the image lacks; defrag of such an image OutOfRange exactly where a number of it lies outside, else Defects exactly
+    // where the image fails a rule, else NoSpace exactly where fewer segments are free than the moves need, else Done; mkfs
+    // Done, or the first refusal for the sizes or for what the disk holds.
     ensures complete { (image : Image) → (D.state disk.old).told ≡ Some image
         → ¬ (Rose (D.state disk.old).faults (D.state disk.new).faults) → ¬ (Rose (O.faults out.old) (O.faults out.new))
         → IsAnswered (job_of (map string_bytes words.now)) (D.state disk.old).size image result }
 
-    // A crash at any moment of the run leaves an image with the same superblock, unless it makes a new one.
-    ensures any_moment { makes_image (job_of (map string_bytes words.now)) ≡ false → KeepsSuper (D.state disk.old) (D.state disk.new) }
+    // Whatever defrag answers, a checked image stays one with the same tree; and so it does in a crash at any moment of it.
+    ensures either { moves_blocks (job_of (map string_bytes words.now)) ≡ true → KeepsTree (D.state disk.old) (D.state disk.new) }
+    ensures moving { moves_blocks (job_of (map string_bytes words.now)) ≡ true → KeepsTreeAlways (D.state disk.old) (D.state disk.new) }
+
+    // A crash at any moment of another run leaves an image with the same superblock, unless it makes a new one.
+    ensures any_moment { makes_image (job_of (map string_bytes words.now)) ≡ false → moves_blocks (job_of (map string_bytes words.now)) ≡ false → KeepsSuper (D.state disk.old) (D.state disk.new) }
     ensures goes { Goes (D.state disk.old) (D.state disk.new) }
     ensures sink_goes { O.faults out.old ≤ O.faults out.new }
 {

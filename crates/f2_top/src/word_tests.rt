@@ -13,6 +13,14 @@ pub(crate) fn named(alloc: Global, answer: &Result<Job, WordsRefusal>) -> Result
         Ok(Job::Super) => String::from_str(alloc, "Super")?,
         Ok(Job::Dump(what)) => format!(in alloc; "{what:?}")?,
         Ok(
+            Job::Defrag {
+                start,
+                blocks,
+                target,
+                down,
+            },
+        ) => format!(in alloc; "Defrag {start:?} {blocks:?} {target:?} {down}")?,
+        Ok(
             Job::Mkfs {
                 sectors,
                 label,
@@ -428,6 +436,26 @@ dump|-s|3\u{ff5e}4|Usage
 dump|-a|3\u{ff5e}4|Usage
 ";
 
+// Words of `defrag`: the start, the length and the target of the range, and whether it goes down.
+const MOVES: &str = "\
+defrag|Defrag None None None false
+defrag|--|Defrag None None None false
+defrag|-i|Defrag None None None true
+defrag|-s|4096|-l=0x10|-t7|-i|Defrag Some(4096) Some(16) Some(7) true
+defrag|-is|1|Defrag Some(1) None None true
+defrag|-il=1|Defrag None Some(1) None true
+defrag|-l18446744073709551615|Defrag None Some(18446744073709551615) None false
+defrag|-l18446744073709551616|Usage
+defrag|-l|-1|Usage
+defrag|-s=|Usage
+defrag|-i|-i|Usage
+defrag|-i=1|Usage
+defrag|4096|Usage
+defrag|--pack|Usage
+defrag|-t|7|-t=7|Usage
+defrag|-s|Usage
+";
+
 #[test]
 fn words_name_jobs(rt: HostRuntime) -> Result<(), Fail> {
     assert_eq!(rt; first_other(rt.alloc(), FEW)?, None);
@@ -467,5 +495,11 @@ fn ranges_have_two_ends(rt: HostRuntime) -> Result<(), Fail> {
 #[test]
 fn another_job_is_told(rt: HostRuntime) -> Result<(), Fail> {
     assert!(rt; first_other(rt.alloc(), "fsck|Check\nfsck|-t|Super\n")?.is_some());
+    Ok(())
+}
+
+#[test]
+fn ranges_to_empty_have_three_numbers(rt: HostRuntime) -> Result<(), Fail> {
+    assert_eq!(rt; first_other(rt.alloc(), MOVES)?, None);
     Ok(())
 }

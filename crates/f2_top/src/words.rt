@@ -3,7 +3,7 @@ ghost use Rattle.std.specs.Prelude.{◌≡◌, ◌≢◌, map, drop, string_byte
 ghost use Rattle.clap.specs.Simple.{app_of};
 ghost use Rattle.clap.specs.Values.{kind_of};
 ghost use Rattle.f2_top.specs.Parser.{app_of_grammar, is_flag_name, is_value_name, Holds, IsNamed, Names, Parses};
-ghost use Rattle.f2_top.specs.Tools.{fsck_grammar, dump_grammar, mkfs_grammar, fsck_job, dump_job, mkfs_job, mkfs_by, choice as chosen, dump_choice, what_of, either as either_of, features_or_none, if_given, job_of, tool_job as tool_job_of, is_super};
+ghost use Rattle.f2_top.specs.Tools.{fsck_grammar, dump_grammar, mkfs_grammar, defrag_grammar, fsck_job, dump_job, mkfs_job, defrag_job, mkfs_by, defrag_by, choice as chosen, dump_choice, what_of, either as either_of, features_or_none, if_given, job_of, tool_job as tool_job_of, is_super};
 ghost use Rattle.f2_top.specs.Numbers.{number_of, uuid_of};
 ghost use Rattle.f2_top.specs.Words.{Text, Use, Grammar, is_used, uses_of, value_in};
 ghost use Rattle.f2_mkfs.specs.Labels.{label_of};
@@ -217,6 +217,59 @@ fn mkfs_options(matches: &ArgMatches<'_>) -> Option<Job>
     image(sectors, label, uuid, second, list, flag(matches, "-f"))
 }
 
+// The range that these texts ask for, if each is a number.
+fn range_asked(
+    start: Option<&str>,
+    blocks: Option<&str>,
+    target: Option<&str>,
+    down: bool,
+) -> Option<Job>
+    ensures { result ≡ defrag_by (option_map (λ s. s.now) start.entry) (option_map (λ s. s.now) blocks.entry) (option_map (λ s. s.now) target.entry) down }
+{
+    let start = number_if(start)?;
+    let blocks = number_if(blocks)?;
+    let target = number_if(target)?;
+    Some(Job::Defrag {
+        start,
+        blocks,
+        target,
+        down,
+    })
+}
+
+// What the options of `defrag` ask for.
+fn defrag_options(matches: &ArgMatches<'_>) -> Option<Job>
+    ensures { (uses : List Use) → Holds defrag_grammar uses matches.now → result ≡ defrag_job uses }
+{
+    let start = value(matches, "-s");
+    let blocks = value(matches, "-l");
+    let target = value(matches, "-t");
+    range_asked(start, blocks, target, flag(matches, "-i"))
+}
+
+// What clap makes of the words of `defrag`.
+fn defrag_matches<'a>(alloc: Global, words: &'a [String]) -> Result<ArgMatches<'a>, WordsRefusal>
+    ensures { Parses defrag_grammar (map string_bytes words.entry.now) result }
+{
+    match commands::defrag(alloc) {
+        Ok(command) => parse(command, words),
+        Err(_) => Err(WordsRefusal::NoMemory),
+    }
+}
+
+// The job of the words of `defrag`.
+fn defrag(alloc: Global, words: &[String]) -> Result<Job, WordsRefusal>
+    ensures { Names (option_and_then defrag_job (uses_of defrag_grammar (drop 1 (map string_bytes words.now)))) result }
+{
+    match defrag_matches(alloc, words) {
+        Ok(matches) => match defrag_options(&matches) {
+            Some(job) => Ok(job),
+            None => Err(WordsRefusal::Usage),
+        },
+        Err(refusal) => Err(refusal),
+    }
+}
+
 // What clap makes of the words of `fsck`.
 fn fsck_matches<'a>(alloc: Global, words: &'a [String]) -> Result<ArgMatches<'a>, WordsRefusal>
     ensures { Parses fsck_grammar (map string_bytes words.entry.now) result }
@@ -306,6 +359,8 @@ fn tool_job(alloc: Global, tool: &str, words: &[String]) -> Result<Job, WordsRef
         dump(alloc, words)
     } else if tool == "mkfs" {
         mkfs(alloc, words)
+    } else if tool == "defrag" {
+        defrag(alloc, words)
     } else {
         Err(WordsRefusal::Usage)
     }

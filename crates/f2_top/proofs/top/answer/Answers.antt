@@ -1,9 +1,9 @@
 use Rattle.std.proofs.Common.{◌≡◌, ◌∙◌, Some, rules, sym, subst}
 use Rattle.f2_top.specs.Answers.{IsWhole}
-use Rattle.f2_top.specs.Run.{AreLines}
+use Rattle.f2_top.specs.Run.{AreLines, Leaves, MovesNone}
 use Rattle.f2_top.specs.declared.answer.Answer.{Answer}
 use Rattle.f2_top.specs.declared.answer.Answer.TheVariants.{Done}
-use Rattle.f2_top.specs.declared.jobs.Job.TheVariants.{Check, Tree, Dump}
+use Rattle.f2_top.specs.declared.jobs.Job.TheVariants.{Check, Tree, Dump, Defrag}
 use Rattle.f2_top.proofs.Texts.{front_of}
 use Rattle.f2_top.proofs.top.answer.Goals as goal
 
@@ -29,7 +29,24 @@ returns-in-Some-Dump-clause-lines g c = λ had told early lines are.
     let it = subst (λ j. AreLines j (g.D.Disk.state c.args.disk.now) early lines) dumps are in
     front_of early lines _ _ _ had _ (it.2 ∙ it.3) it.3 (c.dump_image.ensures.lines had told it.0 it.1)
 
+pub returns-in-Some-Defrag-clause-lines : goal.returns-in-Some-Defrag-clause-lines
+returns-in-Some-Defrag-clause-lines g c = λ had told early lines are.
+    let moves : c.args.job.now ≡ Some (Defrag c.in-Some-Defrag.start c.in-Some-Defrag.blocks c.in-Some-Defrag.target c.in-Some-Defrag.down) = search rules in
+    let it = subst (λ j. AreLines j (g.D.Disk.state c.args.disk.now) early lines) moves are in
+    front_of early lines _ _ _ had _ it.2 it.3 (c.empty_range.ensures.lines had told it.0 it.1)
+
 pub returns-in-Some-Dump-clause-stopped : goal.returns-in-Some-Dump-clause-stopped
 returns-in-Some-Dump-clause-stopped g c = λ image told fault.
     let dumps : c.args.job.now ≡ Some (Dump c.in-Some-Dump.what) = search rules in
     rw dumps (done_whole _ (c.dump_image.ensures.sink_fault image told fault))
+
+pub returns-in-Some-Defrag-clause-image : goal.returns-in-Some-Defrag-clause-image
+returns-in-Some-Defrag-clause-image g c = λ image told fault memory.
+    let moves : c.args.job.now ≡ Some (Defrag c.in-Some-Defrag.start c.in-Some-Defrag.blocks c.in-Some-Defrag.target c.in-Some-Defrag.down) = search rules in
+    let left = c.empty_range.ensures.image image told fault memory in
+    (left.0, left.1, subst (λ j. Leaves j c.args.moment c.args.id (g.D.Disk.state c.args.disk.now).size image left.0) (sym moves) left.2)
+
+pub returns-in-Some-Defrag-clause-none : goal.returns-in-Some-Defrag-clause-none
+returns-in-Some-Defrag-clause-none g c = λ image told none.
+    let moves : c.args.job.now ≡ Some (Defrag c.in-Some-Defrag.start c.in-Some-Defrag.blocks c.in-Some-Defrag.target c.in-Some-Defrag.down) = search rules in
+    c.empty_range.ensures.none image told (subst (λ j. MovesNone j image) moves none)
