@@ -26,6 +26,7 @@ bench: build
 	bench/libraries.py
 	bench/new_images.py
 	bench/check.py
+	bench/defrag.py
 
 install: build
 	install -D -m 755 $(PROGRAM) $(DESTDIR)$(PREFIX)/bin/f2tools
