@@ -3,3 +3,4 @@ pub mod PutNumbers
 pub mod Rows
 pub mod SlotCounts
 pub mod Steps
+mod ZeroWords

@@ -12,6 +12,7 @@ mod places;
 mod puts;
 mod records;
 mod spots;
+mod words;
 
 pub use footers::{FOOTER, footer, footer_rows_lie_apart, set_footer};
 pub use inode::{
@@ -23,6 +24,7 @@ pub use laws::{slots_lie_before_the_inline_attributes, three_steps_lead_to_the_i
 pub use places::{address_at, has_bytes, has_slots, is_inline, nid_at};
 pub use records::{Footer, Kind, Spot};
 pub use spots::{locate, parent_of};
+pub use words::words_used;
 
 #[cfg(test)]
 mod tests;

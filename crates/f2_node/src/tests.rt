@@ -147,3 +147,18 @@ fn bits_and_mode_say_where_the_content_stands(rt: HostRuntime) {
         assert_eq!(rt; has_bytes(&block), bytes, "{mode:x} {flags}");
     }
 }
+
+#[test]
+fn zeros_at_the_end_are_not_used(rt: HostRuntime) {
+    let mut b = Block::zeros();
+    assert_eq!(rt; words_used(&b, 90, 923), 0);
+    assert_eq!(rt; words_used(&b, 1024, 0), 0);
+    set_word(&mut b, 1012, 0x0100_0000);
+    assert_eq!(rt; words_used(&b, 156, 857), 857);
+    assert_eq!(rt; words_used(&b, 156, 856), 0);
+    for last in 0..923 {
+        let mut b = Block::zeros();
+        set_word(&mut b, 90 + last, 1);
+        assert_eq!(rt; words_used(&b, 90, 923), last + 1);
+    }
+}
