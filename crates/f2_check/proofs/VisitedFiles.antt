@@ -1,5 +1,5 @@
 -- What is kept of files, whichever tour it is: at the begin and the end of one, at its words, and past a number that is none.
-use Rattle.std.proofs.Common.{◌≡◌, ℕ, suc, ◌+◌, List, [], ◌∷◌, ◌++◌, false, cond, length, get_or, Some, None, sym, ap, subst, ◌∙◌, append_assoc}
+use Rattle.std.proofs.Common.{◌≡◌, ℕ, zero, suc, ◌+◌, ◌-◌, ◌<◌, ◌≤◌, List, [], ◌∷◌, ◌++◌, false, cond, length, get_or, Some, None, sym, ap, subst, ◌∙◌, append_assoc, arith}
 use Rattle.std.specs.Prelude.{filter_map, flat_map}
 use Rattle.std.proofs.lemmas.Bool.{eq-eqb, ne_eqb}
 use Rattle.std.proofs.lemmas.List.{append-nil}
@@ -45,10 +45,22 @@ module _ (row : Row) (j : ℕ) where
 pub row-none : (row : Row) (slots : List Slot) → slots ≡ slots ++ filter_map (slot_in_row row) (numbers_below 0)
 row-none row slots = sym (append-nil slots) ∙ ap (λ l. slots ++ filter_map (slot_in_row row) l) (sym numbers-none)
 
--- one row more
-pub row-all : (rows : List Row) (row : Row) → flat_map row_slots rows ++ filter_map (slot_in_row row) (numbers_below (length row.words)) ≡ flat_map row_slots (rows ++ row ∷ [])
-unfolding row_slots
-row-all rows row = sym (flat_map_push row_slots rows row)
+-- the words behind the last one that is not 0 are holes
+module _ (row : Row) (used : ℕ) (inside : used ≤ length row.words) (none : (j : ℕ) → used ≤ j → j < length row.words → get_or row.words j 0 ≡ 0) where
+  holes : (more : ℕ) → used + more ≤ length row.words → filter_map (slot_in_row row) (numbers_below (used + more)) ≡ filter_map (slot_in_row row) (numbers_below used)
+  holes zero low = ap (λ n. filter_map (slot_in_row row) (numbers_below n)) (let e : used + 0 ≡ used = omega arith in e)
+  holes (suc more) low =
+      ap (λ n. filter_map (slot_in_row row) (numbers_below n)) (let e : used + suc more ≡ used + more + 1 = omega arith in e)
+      ∙ word-hole row (used + more) (none (used + more) (omega arith) (omega (arith, low)))
+      ∙ holes more (omega (arith, low))
+
+  -- one row more
+  pub row-used : (rows : List Row) → flat_map row_slots rows ++ filter_map (slot_in_row row) (numbers_below used) ≡ flat_map row_slots (rows ++ row ∷ [])
+  unfolding row_slots
+  row-used rows =
+      ap (λ l. flat_map row_slots rows ++ l)
+      (sym (holes (length row.words - used) (omega (arith, inside))) ∙ ap (λ n. filter_map (slot_in_row row) (numbers_below n)) (let e : used + (length row.words - used) ≡ length row.words = omega (arith, inside) in e))
+      ∙ sym (flat_map_push row_slots rows row)
 
 -- ---- begin and end
 

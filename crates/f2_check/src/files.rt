@@ -114,7 +114,7 @@ impl Files {
         ensures goes { Goes (D.state d.old) (D.state d.new) }
         ensures fault { IsErrOf result CheckRefusal.DiskFault → Rose (D.state d.old).faults (D.state d.new).faults }
     {
-        for j in 0..row.len() {
+        for j in 0..row.used() {
             self.take_word(m, d, nodes, row, j)?;
         }
         Ok(())

@@ -1,5 +1,5 @@
 // Rows of address words: those of an inode, or of a direct node.
-ghost use Rattle.std.specs.Prelude.{◌≡◌, ◌+◌, ◌*◌, ◌<◌, ◌≤◌, ◌^◌, true, false, length, get_or, map, MatchOption, IfSome};
+ghost use Rattle.std.specs.Prelude.{◌≡◌, ℕ, ◌+◌, ◌*◌, ◌<◌, ◌≤◌, ◌^◌, true, false, length, get_or, map, MatchOption, IfSome};
 ghost use Rattle.f2_bytes.specs.Bytes.{numbers_below};
 ghost use Rattle.f2_bytes.specs.Bytes.{word as word_of};
 ghost use Rattle.f2_check.specs.Slots.{inode_row_of};
@@ -7,7 +7,7 @@ ghost use Rattle.f2_check.specs.Slots.{direct_before as rows_before};
 ghost use Rattle.f2_bytes.specs.Node.{is_direct};
 
 use f2_disk::Block;
-use f2_node::{addresses, word};
+use f2_node::{addresses, word, words_used};
 use std::marker::Model;
 
 // The number of the first address word of an inode, and how many numbers a node has.
@@ -122,12 +122,13 @@ impl<'a> Row<'a> {
         self.first
     }
 
-    /// How many words there are.
-    pub fn len(&self) -> usize
-        ensures value { result ≡ length self.now.words }
+    /// How many words stand before the zeros at their end: up to the last one that isn't 0.
+    pub fn used(&self) -> usize
+        ensures inside { result ≤ length self.now.words }
         ensures few { result ≤ 1024 }
+        ensures zeros { (j : ℕ) → result ≤ j → j < length self.now.words → get_or self.now.words j 0 ≡ 0 }
     {
-        self.count
+        words_used(self.block, self.at, self.count)
     }
 
     /// Word `j`.

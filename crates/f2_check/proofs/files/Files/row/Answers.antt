@@ -1,10 +1,10 @@
-use Rattle.std.proofs.Common.{◌≡◌, ◌++◌, length, rules, sym, ap, subst, ◌∙◌, arith}
+use Rattle.std.proofs.Common.{◌≡◌, ◌++◌, rules, sym, ap, subst, ◌∙◌, arith}
 use Rattle.std.specs.Prelude.{filter_map, flat_map}
 use Rattle.f2_bytes.specs.Bytes.{numbers_below}
 use Rattle.f2_disk.proofs.Runs.{reads_then, goes_then}
 use Rattle.f2_check.specs.Files.{HasSlots}
 use Rattle.f2_check.specs.Slots.{slot_in_row, row_slots}
-use Rattle.f2_check.proofs.VisitedFiles.{row-none, row-all}
+use Rattle.f2_check.proofs.VisitedFiles.{row-none, row-used}
 use Rattle.f2_check.proofs.files.Files.row.Goals as goal
 
 pub loop-j-init : goal.loop-j-init
@@ -30,8 +30,9 @@ loop-j-preserved g c =
 pub returns-clause-takes : goal.returns-clause-takes
 returns-clause-takes g c = λ image ino rows told of known is inside.
     let row = c.args.row.now in
-    let all : c.loop-j.j ≡ length row.words = omega (arith, c.len-j-end.ensures.value) in
+    let used = c.used-j-end.ensures in
+    let all : c.loop-j.j ≡ c.used-j-end.result = omega arith in
     subst (λ l. HasSlots image ino l c.loop-j.self)
-    (ap (λ n. flat_map row_slots rows ++ filter_map (slot_in_row row) (numbers_below n)) all ∙ row-all rows row)
+    (ap (λ n. flat_map row_slots rows ++ filter_map (slot_in_row row) (numbers_below n)) all ∙ row-used row c.used-j-end.result used.inside used.zeros rows)
     (subst (λ n. HasSlots image n (flat_map row_slots rows ++ filter_map (slot_in_row row) (numbers_below c.loop-j.j)) c.loop-j.self) is
     (c.loop-j.invariant.takes image (flat_map row_slots rows) told of known (subst (λ n. HasSlots image n (flat_map row_slots rows) c.args.self.now) (sym is) inside)))
