@@ -89,5 +89,6 @@ pub mod SupportInMain
 pub mod TableChanges
 pub mod TurnedBits
 pub mod TurnedTables
+mod UsedWords
 pub mod Valid
 pub mod WriteRuns

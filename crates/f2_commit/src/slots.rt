@@ -9,7 +9,7 @@ ghost use Rattle.f2_commit.specs.SegmentMarks.{MarksBlocks};
 
 use crate::marks::Marks;
 use f2_disk::Block;
-use f2_node::{addresses, footer, has_slots, word};
+use f2_node::{addresses, footer, has_slots, word, words_used};
 
 // The number of the first address word of an inode, and how many numbers a node has.
 const FIRST_ADDRESS: usize = 90;
@@ -37,7 +37,9 @@ fn mark_words(marks: &mut Marks, b: &Block, from: usize, count: usize)
     requires { from + count ≤ 1024 }
     ensures { MarksBlocks marks.old marks.new (λ a. list_any (λ j. word_of b.now (from + j) == a) (numbers_below count)) }
 {
-    for j in 0..count {
+    // The zeros at the end are one address, which the first of them marks for all.
+    let used = words_used(b, from, count);
+    for j in 0..count.min(used + 1) {
         marks.mark(word(b, from + j));
     }
 }
