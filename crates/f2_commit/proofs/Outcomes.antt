@@ -9,7 +9,7 @@ use Rattle.f2_commit.specs.Steps.{SameBut, IsBetween, cleared, filled}
 use Rattle.f2_commit.specs.Writes.{Prepared, IsPrepared, AvoidsSupport, OldOrNew, head_address, clearing, filling, sealing, pack_body, writes, committed}
 use Rattle.f2_commit.proofs.SameBlocks.{is_written, Within, within_front, within_back, same_start, same_then, same_within, set_same, first_written, writes_same, row_apart, body_row}
 use Rattle.f2_commit.proofs.Steps.{cleared_is, committed_is}
-use Rattle.std.proofs.lemmas.Bool.{or_from}
+use Rattle.std.proofs.lemmas.Bool.{ne_eqb, or_from}
 use Rattle.std.proofs.lemmas.List.Folds.{list_any-append}
 use Rattle.std.specs.Prelude.{◌==◌, ◌&&◌, take}
 use Rattle.f2_commit.proofs.OldPack.{Stands, blocks_behind, old_agrees}
@@ -46,16 +46,31 @@ module _ (r : Prepared) (p : IsPrepared r) (image : Image) (n : ℕ) (s : Stands
       or_both : is_written r.blocks (head_address r) ≡ false → is_written (pack_body r) (head_address r) ≡ false → is_written (filling r) (head_address r) ≡ false
       or_both a b = list_any-append (λ w. w.0 == head_address r) r.blocks (pack_body r) ∙ or_from (is_written r.blocks (head_address r)) (is_written (pack_body r) (head_address r)) a b
 
+  -- nothing is written before the packs
+  low_free : (n : ℕ) → n < 2 → is_written (writes r) n ≡ false
+  low_free n low =
+      let front : n < r.layout.sit = omega (arith, low, p.in_order.cp, p.in_order.sit) in
+      let before : n < head_address r = omega (arith, low, p.in_order.cp) in
+      let apart = ne_eqb (head_address r) n (λ e. omega (arith, before, e)) in
+      let body = ap (λ bs. is_written bs n) (body_row r) ∙ row_apart (head_address r) (written r.pack) 1 7 n (inl (omega (arith, before))) in
+      let middle = list_any-append (λ w. w.0 == n) r.blocks (pack_body r) ∙ or_from (is_written r.blocks n) (is_written (pack_body r) n) (blocks_behind r p n front) body in
+      let last : is_written (sealing r) n ≡ false = or_from (head_address r == n) false apart refl in
+      or_from (head_address r == n) (is_written (filling r ++ sealing r) n) apart
+      (list_any-append (λ w. w.0 == n) (filling r) (sealing r) ∙ or_from (is_written (filling r) n) (is_written (sealing r) n) middle last)
+
+  copies_kept : (c : Image) → SameBut (writes r) image c → (n : ℕ) → n < 2 → block_at c n ≡ block_at image n
+  copies_kept c same n low = same.others n (low_free n low)
+
   old : (c : Image) → SameBut (writes r) image c → is_sealed (block_at c (head_address r)) ≡ false → OldOrNew image r c
-  old c same unsealed = record { others = same.others; either = inl (old_agrees r p image n s c same avoids unsealed) }
+  old c same unsealed = record { others = same.others; copies = copies_kept c same; either = inl (old_agrees r p image n s c same avoids unsealed) }
 
   untouched : (c : Image) → c ≡ image → OldOrNew image r c
-  untouched c is = subst (OldOrNew image r) (sym is) (record { others = λ address free. refl; either = inl (agrees_itself image) })
+  untouched c is = subst (OldOrNew image r) (sym is) (record { others = λ address free. refl; copies = λ n low. refl; either = inl (agrees_itself image) })
 
   new : (c : Image) → c ≡ set (filled r image) (head_address r) (written r.pack 0) → OldOrNew image r c
   new c is =
       let whole : c ≡ committed r image = is ∙ committed_is r image in
-      subst (OldOrNew image r) (sym whole) (record { others = (writes_same image (writes r)).others; either = inr refl })
+      subst (OldOrNew image r) (sym whole) (record { others = (writes_same image (writes r)).others; copies = copies_kept (committed r image) (writes_same image (writes r)); either = inr refl })
 
   -- a head that is written over with what isn't sealed
   over : (from c : Image) (b : Block) → SameBut (writes r) image from → is_sealed b ≡ false → c ≡ set from (head_address r) b → OldOrNew image r c

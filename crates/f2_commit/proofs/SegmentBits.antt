@@ -1,5 +1,5 @@
 -- Maps of the blocks of a segment whose bits are set or cleared one by one.
-use Rattle.std.proofs.Common.{◌≡◌, ◌≢◌, ℕ, ◌+◌, ◌-◌, ◌/◌, ◌%◌, ◌^◌, ◌<◌, ◌⊎◌, true, ◌==◌, nat_lt, List, replicate, sym, ap, ◌∙◌, ⊎_elim, arith}
+use Rattle.std.proofs.Common.{◌≡◌, ◌≢◌, ℕ, ◌+◌, ◌-◌, ◌/◌, ◌%◌, ◌^◌, ◌<◌, true, ◌==◌, nat_lt, List, replicate, sym, ap, ◌∙◌, ⊎_elim, arith}
 use Rattle.std.proofs.lemmas.Bool.{lt-ltb, ltb-true, cases_eq, false_from_ne_true}
 use Rattle.f2_bytes.specs.Bits.{bit_msb, ChangesBit}
 use Rattle.f2_bytes.specs.Bytes.{has_bit}

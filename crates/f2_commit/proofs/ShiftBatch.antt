@@ -1,8 +1,7 @@
 -- A change with all parts of a batch moves it.
-use Rattle.std.proofs.Common.{◌≡◌, ℕ, ◌+◌, ◌*◌, ◌/◌, ◌<◌, ◌≤◌, List, [], ◌∷◌, ◌++◌, Bool, true, false, not, ◌&&◌, ◌||◌, ◌==◌, cond, map, length, get_or, All, Some, None, refl, sym, ap, subst, ◌∙◌, arith}
-use Rattle.std.specs.Prelude.{drop, IsTrue, IsFalse}
+use Rattle.std.proofs.Common.{◌≡◌, ℕ, ◌+◌, ◌*◌, ◌<◌, ◌≤◌, List, [], ◌∷◌, ◌++◌, true, false, not, ◌&&◌, ◌||◌, map, length, get_or, All, Some, None, refl, sym, ap, subst, ◌∙◌, arith}
+use Rattle.std.specs.Prelude.{drop, IsFalse}
 use Rattle.std.specs.List.{list_any}
-use Rattle.std.specs.List.Sorted.{IsStrictlyIncreasing}
 use Rattle.std.proofs.lemmas.Bool.{false≢true}
 use Rattle.std.proofs.lemmas.List.{length-map, get_or-map}
 use Rattle.f2_bytes.specs.Bits.{bit_msb}
@@ -17,14 +16,13 @@ use Rattle.f2_bytes.specs.Moved.{IsMovedNode}
 use Rattle.f2_bytes.specs.Support.{is_free}
 use Rattle.f2_bytes.specs.Defragment.{target_block}
 use Rattle.f2_bytes.proofs.CheckedUsed.{entry_in_main}
-use Rattle.f2_sum.specs.Records.{nat_entry}
 use Rattle.f2_sum.specs.declared.records.NatEntry.{NatEntry as HeldNatEntry}
 use Rattle.f2_commit.specs.declared.change.Change.{Change}
 use Rattle.f2_commit.specs.declared.gathering.MovedBlock.{MovedBlock}
 use Rattle.f2_commit.specs.Change.{given}
-use Rattle.f2_commit.specs.Gathering.{addresses_of, moved_block}
+use Rattle.f2_commit.specs.Gathering.{moved_block}
 use Rattle.f2_commit.specs.Moves.{MovesBatch, AreTargets, moved_data, moved_nodes, data_target_count, node_target_count, node_targets, data_place, node_place, new_address, is_moving, is_taken, sit_after, node_summary}
-use Rattle.f2_commit.specs.Shifting.{IsBatch, HasParts, HasSums, IsShifted, AreShifted, HavePlaces, AreSums, data_summary, data_blocks, node_addresses}
+use Rattle.f2_commit.specs.Shifting.{IsBatch, HasParts, IsShifted, AreShifted, HavePlaces, AreSums, data_summary, data_blocks, node_addresses}
 use Rattle.f2_commit.proofs.MoveLayout.{main_inside}
 use Rattle.f2_commit.proofs.MoveTargets.{put_number}
 use Rattle.f2_commit.proofs.ShiftEntries.{some_held, moved_entry_there, old_entry, entries_given}

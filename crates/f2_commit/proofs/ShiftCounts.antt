@@ -12,7 +12,7 @@ use Rattle.f2_bytes.specs.Check.{same, single, digit, defects, count_parts, is_c
 use Rattle.f2_bytes.specs.Checkpoint.{head, is_log_segment, free_segment_count}
 use Rattle.f2_bytes.specs.Defragment.{is_among}
 use Rattle.f2_bytes.specs.Journal.{SitEntry}
-use Rattle.f2_bytes.specs.SegmentTable.{sit, has_valid_block}
+use Rattle.f2_bytes.specs.SegmentTable.{has_valid_block}
 use Rattle.f2_bytes.specs.Superblock.{layout, is_main, segment_of}
 use Rattle.f2_bytes.specs.Support.{is_free}
 use Rattle.f2_bytes.proofs.Below.{some_below}

@@ -1,22 +1,20 @@
 -- The new entries of the nodes of a batch: those of the nodes that move, with their new addresses, and no others.
-use Rattle.std.proofs.Common.{◌≡◌, ℕ, ◌+◌, ◌<◌, inl, inr, List, Bool, true, false, ◌==◌, cond, map, length, get_or, All, Option, Some, None, refl, sym, ap, subst, ◌∙◌, arith}
+use Rattle.std.proofs.Common.{◌≡◌, ℕ, ◌<◌, inl, inr, List, Bool, true, false, ◌==◌, cond, map, length, get_or, All, Some, None, refl, sym, ap, ◌∙◌, arith}
 use Rattle.std.specs.Prelude.{option_map}
-use Rattle.std.specs.List.{list_any}
 use Rattle.std.specs.List.Sorted.{IsStrictlyIncreasing}
 use Rattle.std.proofs.lemmas.Bool.{eq-eqb, eqb-true, cases_lt}
 use Rattle.std.proofs.lemmas.List.{length-map, get_or-map, get_or_default}
 use Rattle.std.proofs.lemmas.List.Folds.{Any-from_list_any, list_any_at}
 use Rattle.std.proofs.lemmas.List.Kept.{AllPairs-from_increasing}
-use Rattle.f2_bytes.specs.Bytes.{Image, numbers_below}
+use Rattle.f2_bytes.specs.Bytes.{Image}
 use Rattle.f2_bytes.specs.Superblock.{layout, is_main}
-use Rattle.f2_bytes.specs.Journal.{NatEntry}
 use Rattle.f2_bytes.specs.NodeAddressTable.{nat, image_nat_entry}
 use Rattle.f2_bytes.specs.Check.{is_checked}
 use Rattle.f2_bytes.specs.Moved.{moved_entry}
 use Rattle.f2_bytes.specs.Defragment.{is_among, target_block}
 use Rattle.f2_sum.specs.Records.{nat_entry}
 use Rattle.f2_sum.specs.declared.records.NatEntry.{NatEntry as HeldNatEntry}
-use Rattle.f2_commit.specs.Change.{given, nat_given}
+use Rattle.f2_commit.specs.Change.{nat_given}
 use Rattle.f2_commit.specs.Moves.{moved_nodes, node_targets, new_address}
 use Rattle.f2_commit.specs.Shifting.{HavePlaces}
 use Rattle.f2_commit.proofs.MoveMarked.{put_there, nodes_rise, found_node, to_node, node_no_data}

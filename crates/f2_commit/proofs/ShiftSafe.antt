@@ -1,7 +1,7 @@
 -- A change with all parts of a batch writes nothing that the image depends on; and what stands once it is committed.
-use Rattle.std.proofs.Common.{◌≡◌, ℕ, ◌+◌, ◌*◌, ◌/◌, ◌<◌, ◌≤◌, List, ◌++◌, true, false, map, length, get_or, All, refl, sym, ap, subst, ◌∙◌, arith}
+use Rattle.std.proofs.Common.{◌≡◌, ℕ, ◌+◌, ◌*◌, ◌/◌, ◌<◌, ◌≤◌, List, ◌++◌, true, false, length, get_or, All, sym, ap, subst, ◌∙◌, arith}
 use Rattle.std.specs.List.Sorted.{IsStrictlyIncreasing}
-use Rattle.std.proofs.lemmas.List.{length-map, length-drop, get_or-drop, get_or-map}
+use Rattle.std.proofs.lemmas.List.{length-map, get_or-map}
 use Rattle.std.proofs.lemmas.List.Elements.{All-append, All-map}
 use Rattle.f2_bytes.specs.Bytes.{Block, Image, IsBlock, block_at, numbers_below, quotient_up}
 use Rattle.f2_bytes.specs.Superblock.{layout, is_main, segment_of}

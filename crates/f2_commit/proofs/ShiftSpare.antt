@@ -1,7 +1,7 @@
 -- What a batch writes is no support of a checked image: the summary block of a free segment, and each block of a target.
-use Rattle.std.proofs.Common.{◌≡◌, ℕ, ◌+◌, ◌-◌, ◌*◌, ◌<◌, ◌≤◌, Bool, true, false, not, ◌==◌, ◌&&◌, ◌||◌, nat_le, nat_lt, refl, sym, ap, subst, ◌∙◌, ⊎_elim, arith}
+use Rattle.std.proofs.Common.{◌≡◌, ℕ, ◌+◌, ◌*◌, ◌<◌, Bool, true, false, not, ◌==◌, ◌&&◌, ◌||◌, nat_le, nat_lt, refl, sym, ap, ◌∙◌, ⊎_elim, arith}
 use Rattle.std.specs.List.{list_any}
-use Rattle.std.proofs.lemmas.Bool.{and_parts, or_cases, eqb-true, leb-true, ltb-true, not-true, false_from_ne_true, false≢true}
+use Rattle.std.proofs.lemmas.Bool.{and_parts, or_cases, eqb-true, leb-true, ltb-true, false_from_ne_true, false≢true}
 use Rattle.f2_bytes.specs.Bits.{bit_msb}
 use Rattle.f2_bytes.specs.Bytes.{Image, block_at, numbers_below}
 use Rattle.f2_bytes.specs.Superblock.{passes, layout, is_main, segment_of, place_of, segment_start}

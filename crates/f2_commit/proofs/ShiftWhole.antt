@@ -1,9 +1,9 @@
 -- A change with all parts of a batch, once it is committed; and what a crash in that leaves.
-use Rattle.std.proofs.Common.{◌≡◌, ◌⊎◌, inl, inr, ℕ, zero, suc, ◌+◌, ◌-◌, ◌*◌, ◌^◌, ◌<◌, ◌≤◌, List, [], ◌∷◌, Bool, true, false, not, ◌&&◌, Option, length, get_or, All, Some, refl, sym, ap, subst, ◌∙◌, arith}
-use Rattle.std.specs.Prelude.{IsTrue, IfSome, drop, take}
+use Rattle.std.proofs.Common.{◌≡◌, ◌⊎◌, inl, inr, ℕ, zero, suc, ◌+◌, ◌^◌, ◌<◌, ◌≤◌, List, [], ◌∷◌, true, false, not, ◌&&◌, Option, length, get_or, All, Some, refl, sym, ap, subst, ◌∙◌, arith}
+use Rattle.std.specs.Prelude.{IsTrue, IfSome}
 use Rattle.std.specs.List.Sorted.{IsStrictlyIncreasing}
 use Rattle.std.proofs.lemmas.List.{get_or_default, length-map}
-use Rattle.std.proofs.lemmas.List.Elements.{All-append, All-take, All-drop}
+use Rattle.std.proofs.lemmas.List.Elements.{All-take}
 use Rattle.f2_bytes.specs.Summary.{Summary}
 use Rattle.f2_bytes.specs.Bytes.{Block, Image, IsBlock, block_at, quotient_up}
 use Rattle.f2_bytes.specs.Check.{is_checked}
@@ -29,7 +29,7 @@ use Rattle.f2_commit.specs.declared.gathering.MovedBlock.{MovedBlock}
 use Rattle.f2_commit.specs.Carried.{Carries}
 use Rattle.f2_commit.specs.Change.{log_at}
 use Rattle.f2_commit.specs.Gathering.{addresses_of}
-use Rattle.f2_commit.specs.Moves.{AreTargets, HasMoved, moved_data, moved_nodes}
+use Rattle.f2_commit.specs.Moves.{AreTargets, HasMoved, HasSameFiles, moved_data, moved_nodes}
 use Rattle.f2_commit.specs.Shifting.{IsBatch, HasParts, AreTaken, AreSums}
 use Rattle.f2_commit.specs.Writes.{Prepared, OldOrNew, committed}
 use Rattle.f2_commit.proofs.SegmentsGiven.{gives_from, nodes_in_main}
@@ -135,10 +135,14 @@ need_met image addresses targets moved nids free of_data of_nodes =
     let second : length (moved_nodes image addresses) ≡ length nids = sym (ap length of_nodes) in
     subst (λ n. n ≤ length targets) (λ i. quotient_up (first i) 512 + quotient_up (second i) 512) free.enough
 
--- what a crash leaves of the commit, or a fault, is checked, with the same tree
+-- an image has its own files
+pub own_files : (image : Image) → is_checked image ≡ true → HasSameFiles image image
+own_files image h = (h, refl, λ n low. refl)
+
+-- what a crash leaves of the commit, or a fault, is checked, with the same tree and superblock copies
 pub still_checked : (image : Image) (addresses targets : List ℕ) (r : Prepared) (left : Image) → is_checked image ≡ true → HasMoved image (committed r image) addresses targets → OldOrNew image r left
-    → IsTrue (is_checked left) × (tree left ≡ tree image)
-still_checked image addresses targets r left h moved outcome = by outcome.either
+    → HasSameFiles image left
+still_checked image addresses targets r left h moved outcome = let kept = by outcome.either in (kept.0, kept.1, outcome.copies)
   where
     by : AgreesOnSupport image left ⊎ (left ≡ committed r image) → IsTrue (is_checked left) × (tree left ≡ tree image)
     by (inl agrees) = support_keeps_tree image left agrees h

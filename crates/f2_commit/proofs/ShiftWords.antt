@@ -1,5 +1,5 @@
 -- A node of a checked image with the new addresses of the blocks that it holds is the node after the move.
-use Rattle.std.proofs.Common.{◌≡◌, ℕ, ◌+◌, ◌-◌, ◌<◌, ◌≤◌, ◌⊎◌, inl, inr, List, Bool, true, false, not, ◌==◌, ◌&&◌, nat_lt, nat_le, cond, length, get_or, All, Option, Some, None, refl, sym, ap, ◌∙◌, subst, ⊎_elim, arith}
+use Rattle.std.proofs.Common.{◌≡◌, ℕ, ◌+◌, ◌-◌, ◌<◌, inl, inr, List, Bool, true, false, not, ◌==◌, ◌&&◌, nat_lt, nat_le, cond, length, get_or, All, Option, Some, None, refl, sym, ap, ◌∙◌, subst, ⊎_elim, arith}
 use Rattle.std.specs.Prelude.{unwrap_or}
 use Rattle.std.specs.Option.{option_map_or}
 use Rattle.std.specs.List.{list_any}
@@ -12,9 +12,9 @@ use Rattle.f2_bytes.specs.Journal.{NatEntry}
 use Rattle.f2_bytes.specs.NodeAddressTable.{nat}
 use Rattle.f2_bytes.specs.Node.{node_offset, has_slots, is_direct, is_regular, address_count, ext_addr, ext_len}
 use Rattle.f2_bytes.specs.Tree.{read_node, tree_slot, is_inode}
-use Rattle.f2_bytes.specs.Check.{is_checked, is_data, is_node, nid_with}
+use Rattle.f2_bytes.specs.Check.{is_checked, nid_with}
 use Rattle.f2_bytes.specs.Moved.{IsMovedNode, moved_word, covers_moved, is_used}
-use Rattle.f2_bytes.specs.Defragment.{is_among, is_covered, regular_extent, put_at, target_block}
+use Rattle.f2_bytes.specs.Defragment.{is_covered, regular_extent, put_at, target_block}
 use Rattle.f2_bytes.proofs.Below.{some_below, found_below}
 use Rattle.f2_bytes.proofs.CheckedNodes.{read_node-checked}
 use Rattle.f2_bytes.proofs.SlotSupport.{body_checked}

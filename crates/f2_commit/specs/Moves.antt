@@ -36,6 +36,10 @@ node_targets image addresses targets = drop (data_target_count image addresses) 
 abbrev pub node_target_count : Image → List ℕ → ℕ
 node_target_count image addresses = quotient_up (length (moved_nodes image addresses)) 512
 
+-- A checked image with the tree of another one, and with its superblock copies: what each moment of a move leaves.
+abbrev pub HasSameFiles : Image → Image → Type 0
+HasSameFiles image left = IsTrue (is_checked left) × (tree left ≡ tree image) × ((n : ℕ) → n < 2 → block_at left n ≡ block_at image n)
+
 -- what a batch takes: different free segments, as many as it needs
 pub record AreTargets (image : Image) (addresses targets : List ℕ) : Type 0 where
   pub free : All (λ segment. IsTrue (is_free image segment)) targets

@@ -1,5 +1,5 @@
 -- The parts of the change that moves a batch, from the lists that are gathered of it.
-use Rattle.std.specs.Prelude.{◌≡◌, true, ℕ, ◌+◌, ◌-◌, ◌*◌, ◌<◌, min, Bool, not, ◌&&◌, ◌==◌, nat_le, nat_lt, if◌then◌else◌, List, [], ◌++◌, map, filter, get_or, length, take, drop, unwrap_or, IsTrue}
+use Rattle.std.specs.Prelude.{◌≡◌, true, ℕ, ◌+◌, ◌-◌, ◌*◌, ◌<◌, Bool, not, ◌&&◌, ◌==◌, nat_le, nat_lt, if◌then◌else◌, List, ◌++◌, map, filter, get_or, length, take, drop, unwrap_or}
 use Rattle.std.specs.List.{list_any, All}
 use Rattle.std.specs.List.Sorted.{IsStrictlyIncreasing}
 use Rattle.f2_bytes.specs.declared.layout.Layout.{Layout}

@@ -70,7 +70,8 @@ abbrev pub AvoidsSupport : Image → Prepared → Type 0
 AvoidsSupport image r = All (λ w. IsFalse (is_support image w.0)) r.blocks
 
 -- What a crash in the commit leaves, or a fault: no block that it does not write differs, and it is the old image, with
--- its support unchanged and its pack counting, or the new one.
+-- its support unchanged and its pack counting, or the new one. The superblock copies are never written to.
 pub record OldOrNew (image : Image) (r : Prepared) (left : Image) : Type 0 where
   pub others : (address : ℕ) → IsFalse (list_any (λ w. w.0 == address) (writes r)) → block_at left address ≡ block_at image address
+  pub copies : (n : ℕ) → n < 2 → block_at left n ≡ block_at image n
   pub either : AgreesOnSupport image left ⊎ (left ≡ committed r image)

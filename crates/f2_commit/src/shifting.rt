@@ -8,7 +8,6 @@ ghost use Rattle.f2_bytes.specs.Defragment.{is_among};
 ghost use Rattle.f2_bytes.specs.Journal.{FitsSitEntry};
 ghost use Rattle.f2_bytes.specs.NodeAddressTable.{nid_limit};
 ghost use Rattle.f2_bytes.specs.Superblock.{IsInOrder, is_main, layout};
-ghost use Rattle.f2_bytes.specs.Tree.{tree};
 ghost use Rattle.f2_disk.specs.Disk.{Reads, Goes, Rose, LeavesOnly};
 ghost use Rattle.f2_pack.specs.Logs.{log_of};
 ghost use Rattle.f2_pack.specs.Written.{written};
@@ -17,7 +16,7 @@ ghost use Rattle.f2_sum.specs.declared.records.NatEntry.{NatEntry as HeldNatEntr
 ghost use Rattle.f2_view.specs.Mounted.{layout_in, IsKept, IsMountOf};
 ghost use Rattle.f2_commit.specs.Change.{log_at};
 ghost use Rattle.f2_commit.specs.Gathering.{AllMain, addresses_of, moved_block};
-ghost use Rattle.f2_commit.specs.Moves.{AreTargets, HasMoved, moved_data, moved_nodes};
+ghost use Rattle.f2_commit.specs.Moves.{AreTargets, HasMoved, HasSameFiles, moved_data, moved_nodes};
 ghost use Rattle.f2_commit.specs.Shifting.{IsBatch, HasBlocks, HasSegments, HasSummaries, HasParts, IsSafe, node_addresses};
 ghost use Rattle.f2_commit.specs.Writes.{Follows, AvoidsSupport, committed};
 
@@ -314,8 +313,8 @@ fn ready_to_move<D: Disk>(
 /// by ascending nid; an extent that covers a block that moves is made zero. Targets are different free main segments, counted
 /// from 0; there are at least as many as the data and the nodes that `weigh` answers fill, 512 blocks each.
 ///
-/// Where nothing was pending before, a crash at any moment leaves a checked image with the same tree; so does a fault, after which
-/// the image is to be mounted anew. After `NoMemory` nothing was written. On a disk that tells nothing of its blocks, a batch whose
+/// Where nothing was pending before, a crash at any moment leaves a checked image with the same tree and the same superblock
+/// copies; so does a fault, after which the image is to be mounted anew. After `NoMemory` nothing was written. On a disk that tells nothing of its blocks, a batch whose
 /// blocks can't be moved as they are read (they need more targets, or lie outside of main) makes no write, and the mount is
 /// answered.
 pub fn shift<D: Disk>(
@@ -341,11 +340,11 @@ pub fn shift<D: Disk>(
     ensures layout { IfOk result (λ n. layout_in n ≡ layout_in m) }
     ensures version { IfOk result (λ n. checkpoint_ver n.chosen.head ≤ checkpoint_ver m.chosen.head + 2) }
     ensures durable { (D.state d.old).pending ≡ false → IfOk result (λ _. (D.state d.new).pending ≡ false) }
-    // Whatever it answers, the disk reads as a checked image with the same tree.
-    ensures either { (image : Image) → (D.state d.old).told ≡ Some image → (now : Image) × ((D.state d.new).told ≡ Some now) × IsTrue (is_checked now) × (tree now ≡ tree image) }
+    // Whatever it answers, the disk reads as a checked image with the same tree and the same superblock copies.
+    ensures either { (image : Image) → (D.state d.old).told ≡ Some image → (now : Image) × ((D.state d.new).told ≡ Some now) × HasSameFiles image now }
     // So does what a crash at any moment of it leaves.
     ensures any_moment { (D.state d.old).pending ≡ false → (image : Image) → (D.state d.old).told ≡ Some image
-        → LeavesOnly (D.state d.old) (D.state d.new) (λ left. IsTrue (is_checked left) × (tree left ≡ tree image)) }
+        → LeavesOnly (D.state d.old) (D.state d.new) (HasSameFiles image) }
     ensures unwritten { result ≡ Err ShiftRefusal.NoMemory → Reads (D.state d.old) (D.state d.new) }
     ensures goes { Goes (D.state d.old) (D.state d.new) }
     ensures fault { IsErrOf result ShiftRefusal.DiskFault → Rose (D.state d.old).faults (D.state d.new).faults }

@@ -1,7 +1,6 @@
-use Rattle.std.proofs.Common.{◌≡◌, ◌++◌, ◌<◌, All, true, sym, ap, ◌∙◌, arith}
-use Rattle.std.proofs.lemmas.List.{take_all, append-nil}
+use Rattle.std.proofs.Common.{◌++◌, ap, ◌∙◌, arith}
+use Rattle.std.proofs.lemmas.List.{take_all}
 use Rattle.f2_bytes.specs.Defragment.{is_among}
-use Rattle.f2_sum.specs.declared.records.NatEntry.{NatEntry as HeldNatEntry}
 use Rattle.f2_commit.specs.declared.gathering.MovedBlock.{MovedBlock}
 use Rattle.f2_commit.specs.Gathering.{addresses_of}
 use Rattle.f2_commit.specs.Shifting.{node_addresses}

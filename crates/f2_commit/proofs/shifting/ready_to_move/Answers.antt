@@ -1,4 +1,4 @@
-use Rattle.std.proofs.Common.{◌≡◌, ◌+◌, ◌≤◌, ℕ, List, All, true, false, length, subst, sym, ap, ◌∙◌, arith}
+use Rattle.std.proofs.Common.{◌≡◌, ◌+◌, ℕ, List, All, true, false, subst, sym, ap, ◌∙◌, arith}
 use Rattle.f2_bytes.specs.Bytes.{Block}
 use Rattle.f2_bytes.specs.Checkpoint.{checkpoint_ver}
 use Rattle.f2_bytes.specs.Superblock.{is_main, segment_of}
