@@ -1,14 +1,14 @@
 -- What a batch did, from what its valid blocks did.
-use Rattle.std.proofs.Common.{◌≡◌, ℕ, ◌≤◌, ◌+◌, Bool, true, false, ◌==◌, cond, inl, inr, List, [], length, Option, Some, IfSome, Result, Ok, Err, IfOk, refl, ap, subst, ◌∙◌, arith}
+use Rattle.std.proofs.Common.{◌≡◌, ℕ, ◌≤◌, ◌+◌, Bool, true, false, ◌==◌, cond, inl, inr, List, [], length, Option, Some, IfSome, Result, Ok, Err, IfOk, refl, sym, ap, subst, ◌∙◌, arith}
 use Rattle.std.specs.Result.{IsErrAnd}
 use Rattle.f2_bytes.specs.Bytes.{Image}
 use Rattle.f2_bytes.specs.Check.{is_checked}
 use Rattle.f2_bytes.specs.Superblock.{layout}
-use Rattle.f2_bytes.specs.Tree.{tree}
 use Rattle.f2_bytes.specs.NodeAddressTable.{nid_limit}
 use Rattle.f2_bytes.specs.Defragment.{placement, batch_need}
-use Rattle.f2_commit.specs.Moves.{HasMoved}
+use Rattle.f2_commit.specs.Moves.{HasMoved, HasSameFiles}
 use Rattle.f2_reloc.specs.Emptying.{valid_among, moved_with, HasStepped}
+use Rattle.f2_reloc.proofs.Rests.{own_files}
 use Rattle.f2_commit.specs.declared.relocating.Moved.{Moved}
 use Rattle.f2_reloc.specs.declared.moving.Step.{Step}
 
@@ -29,9 +29,9 @@ stepped_done now part targets addresses is step new some moved blocks taken area
   areas = areas;
 })
 
-pub stepped_kept : (now : Image) (part targets : List ℕ) (step : Step) (new : Image) → HasStepped now part targets step new → is_checked now ≡ true → (is_checked new ≡ true) × (tree new ≡ tree now)
-stepped_kept now part targets step new (inl idle) h = (ap is_checked idle.same ∙ h, ap tree idle.same)
-stepped_kept now part targets step new (inr done) h = (done.moved.checked, done.moved.same_tree)
+pub stepped_kept : (now : Image) (part targets : List ℕ) (step : Step) (new : Image) → HasStepped now part targets step new → is_checked now ≡ true → HasSameFiles now new
+stepped_kept now part targets step new (inl idle) h = subst (HasSameFiles now) (sym idle.same) (own_files now h)
+stepped_kept now part targets step new (inr done) h = (done.moved.checked, done.moved.same_tree, done.moved.blocks.copies)
 
 pub moved_once : (moved : Moved) (step : Step) → (moved_with moved step).batches ≤ moved.batches + 1
 moved_once moved step = once (step.blocks == 0)

@@ -5,8 +5,8 @@ ghost use Rattle.f2_bytes.specs.Check.{is_checked, is_marked};
 ghost use Rattle.f2_bytes.specs.Checkpoint.{checkpoint_ver};
 ghost use Rattle.f2_bytes.specs.Defragment.{main_end, defrag_batches, defrag_targets, defrag_need, defrag_have};
 ghost use Rattle.f2_bytes.specs.Superblock.{layout};
-ghost use Rattle.f2_bytes.specs.Tree.{tree};
 ghost use Rattle.f2_disk.specs.Disk.{Reads, Goes, Rose, LeavesOnly};
+ghost use Rattle.f2_commit.specs.Moves.{HasSameFiles};
 ghost use Rattle.f2_view.specs.Mounted.{layout_in, IsMountOf};
 ghost use Rattle.f2_reloc.specs.Emptying.{end_of, part_of, moved_with, IsInside, IsWithin, IsNeed, AreChosen, IsPlan, IsSafePlan, IsEmptied};
 ghost use Rattle.f2_commit.specs.declared.relocating.RelocRefusal.TheVariants.{NoSpace};
@@ -149,9 +149,9 @@ fn move_all<D: Disk>(
     ensures layout { IfOk result (λ r. layout_in r.0 ≡ layout_in m) }
     ensures version { IfOk result (λ r. checkpoint_ver r.0.chosen.head ≤ checkpoint_ver m.chosen.head + 2 * ((layout_in m).segments + 1)) }
     ensures durable { (D.state d.old).pending ≡ false → IfOk result (λ _. (D.state d.new).pending ≡ false) }
-    ensures either { (image : Image) → (D.state d.old).told ≡ Some image → (now : Image) × ((D.state d.new).told ≡ Some now) × IsTrue (is_checked now) × (tree now ≡ tree image) }
+    ensures either { (image : Image) → (D.state d.old).told ≡ Some image → (now : Image) × ((D.state d.new).told ≡ Some now) × HasSameFiles image now }
     ensures any_moment { (D.state d.old).pending ≡ false → (image : Image) → (D.state d.old).told ≡ Some image
-        → LeavesOnly (D.state d.old) (D.state d.new) (λ left. IsTrue (is_checked left) × (tree left ≡ tree image)) }
+        → LeavesOnly (D.state d.old) (D.state d.new) (HasSameFiles image) }
     ensures goes { Goes (D.state d.old) (D.state d.new) }
     ensures fault { IsErrOf result RelocRefusal.DiskFault → Rose (D.state d.old).faults (D.state d.new).faults }
     ensures never { (need have : ℕ) → result ≡ Err (NoSpace need have) → ⊥ }
@@ -213,8 +213,8 @@ fn planned<D: Disk>(
 /// move to free segments outside of it, from the target's on upward, or downward; batch by batch, each by one commit.
 ///
 /// Where the range has no valid block nothing is written, and the free segments are not looked for. After `NoSpace` nothing was
-/// written. Whatever it answers, the disk reads as a checked image with the same tree, and, where nothing was pending before, so
-/// does what a crash at any moment leaves.
+/// written. Whatever it answers, the disk reads as a checked image with the same tree and the same superblock copies, and, where
+/// nothing was pending before, so does what a crash at any moment leaves.
 pub fn defrag<D: Disk>(
     alloc: Global,
     m: Mount,
@@ -241,11 +241,11 @@ pub fn defrag<D: Disk>(
     ensures no_space { (need have : ℕ) → result ≡ Err (NoSpace need have) → (image : Image) → (D.state d.old).told ≡ Some image
         → (need ≡ defrag_need image range.start (end_of range)) × (have ≡ defrag_have image range.start (end_of range) target down) × (have < need) }
     ensures unwritten { (need have : ℕ) → result ≡ Err (NoSpace need have) → Reads (D.state d.old) (D.state d.new) }
-    // Whatever it answers, the disk reads as a checked image with the same tree.
-    ensures either { (image : Image) → (D.state d.old).told ≡ Some image → (now : Image) × ((D.state d.new).told ≡ Some now) × IsTrue (is_checked now) × (tree now ≡ tree image) }
+    // Whatever it answers, the disk reads as a checked image with the same tree and the same superblock copies.
+    ensures either { (image : Image) → (D.state d.old).told ≡ Some image → (now : Image) × ((D.state d.new).told ≡ Some now) × HasSameFiles image now }
     // So does what a crash at any moment of it leaves.
     ensures any_moment { (D.state d.old).pending ≡ false → (image : Image) → (D.state d.old).told ≡ Some image
-        → LeavesOnly (D.state d.old) (D.state d.new) (λ left. IsTrue (is_checked left) × (tree left ≡ tree image)) }
+        → LeavesOnly (D.state d.old) (D.state d.new) (HasSameFiles image) }
     ensures goes { Goes (D.state d.old) (D.state d.new) }
     ensures fault { IsErrOf result RelocRefusal.DiskFault → Rose (D.state d.old).faults (D.state d.new).faults }
 {

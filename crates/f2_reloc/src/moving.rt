@@ -7,10 +7,9 @@ ghost use Rattle.f2_bytes.specs.Checkpoint.{checkpoint_ver};
 ghost use Rattle.f2_bytes.specs.Defragment.{placement, batch_need};
 ghost use Rattle.f2_bytes.specs.NodeAddressTable.{nid_limit};
 ghost use Rattle.f2_bytes.specs.Superblock.{is_main, layout};
-ghost use Rattle.f2_bytes.specs.Tree.{tree};
 ghost use Rattle.f2_disk.specs.Disk.{Reads, Goes, Rose, LeavesOnly};
 ghost use Rattle.f2_view.specs.Mounted.{layout_in, IsMountOf};
-ghost use Rattle.f2_commit.specs.Moves.{AreTargets, HasMoved};
+ghost use Rattle.f2_commit.specs.Moves.{AreTargets, HasMoved, HasSameFiles};
 ghost use Rattle.f2_reloc.specs.Emptying.{part_of, need_of, IsInside, IsWithin, IsReady, HasStepped};
 ghost use Rattle.f2_commit.specs.declared.relocating.RelocRefusal.TheVariants.{NoSpace};
 
@@ -89,9 +88,9 @@ fn move_valid<D: Disk>(
     ensures durable { (D.state d.old).pending ≡ false → IfOk result (λ _. (D.state d.new).pending ≡ false) }
     ensures taken { IfOk result (λ r. r.1.targets ≤ length targets.now) }
     ensures few { IfOk result (λ r. r.1.blocks ≤ 4096) }
-    ensures either { (image : Image) → (D.state d.old).told ≡ Some image → (now : Image) × ((D.state d.new).told ≡ Some now) × IsTrue (is_checked now) × (tree now ≡ tree image) }
+    ensures either { (image : Image) → (D.state d.old).told ≡ Some image → (now : Image) × ((D.state d.new).told ≡ Some now) × HasSameFiles image now }
     ensures any_moment { (D.state d.old).pending ≡ false → (image : Image) → (D.state d.old).told ≡ Some image
-        → LeavesOnly (D.state d.old) (D.state d.new) (λ left. IsTrue (is_checked left) × (tree left ≡ tree image)) }
+        → LeavesOnly (D.state d.old) (D.state d.new) (HasSameFiles image) }
     ensures goes { Goes (D.state d.old) (D.state d.new) }
     ensures fault { IsErrOf result RelocRefusal.DiskFault → Rose (D.state d.old).faults (D.state d.new).faults }
     ensures never { (need have : ℕ) → result ≡ Err (NoSpace need have) → ⊥ }
@@ -141,9 +140,9 @@ pub(crate) fn move_batch<D: Disk>(
     ensures durable { (D.state d.old).pending ≡ false → IfOk result (λ _. (D.state d.new).pending ≡ false) }
     ensures taken { IfOk result (λ r. r.1.targets ≤ length targets.now) }
     ensures few { IfOk result (λ r. r.1.blocks ≤ 4096) }
-    ensures either { (image : Image) → (D.state d.old).told ≡ Some image → (now : Image) × ((D.state d.new).told ≡ Some now) × IsTrue (is_checked now) × (tree now ≡ tree image) }
+    ensures either { (image : Image) → (D.state d.old).told ≡ Some image → (now : Image) × ((D.state d.new).told ≡ Some now) × HasSameFiles image now }
     ensures any_moment { (D.state d.old).pending ≡ false → (image : Image) → (D.state d.old).told ≡ Some image
-        → LeavesOnly (D.state d.old) (D.state d.new) (λ left. IsTrue (is_checked left) × (tree left ≡ tree image)) }
+        → LeavesOnly (D.state d.old) (D.state d.new) (HasSameFiles image) }
     ensures goes { Goes (D.state d.old) (D.state d.new) }
     ensures fault { IsErrOf result RelocRefusal.DiskFault → Rose (D.state d.old).faults (D.state d.new).faults }
     ensures never { (need have : ℕ) → result ≡ Err (NoSpace need have) → ⊥ }

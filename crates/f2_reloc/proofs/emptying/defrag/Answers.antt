@@ -1,16 +1,15 @@
-use Rattle.std.proofs.Common.{◌≡◌, ◌≤◌, ℕ, List, length, true, Err, refl, sym, ap, subst, ◌∙◌, arith}
+use Rattle.std.proofs.Common.{◌≤◌, ℕ, List, length, Err, sym, ap, subst, ◌∙◌, arith}
 use Rattle.std.proofs.lemmas.Result.{IfOk-weaker}
 use Rattle.f2_bytes.specs.declared.layout.Layout.{Layout}
-use Rattle.f2_bytes.specs.Check.{is_checked}
 use Rattle.f2_bytes.specs.Defragment.{defrag_need}
-use Rattle.f2_bytes.specs.Tree.{tree}
+use Rattle.f2_commit.specs.Moves.{HasSameFiles}
 use Rattle.f2_disk.proofs.Runs.{reads_first, at_rest, goes_then}
 use Rattle.f2_view.specs.Mounted.{IsMountOf}
 use Rattle.f2_view.proofs.TableReadings.{own_layout}
 use Rattle.f2_reloc.specs.Emptying.{end_of, IsInside}
 use Rattle.f2_commit.specs.declared.relocating.RelocRefusal.{RelocRefusal}
 use Rattle.f2_reloc.proofs.Idle.{no_marks}
-use Rattle.f2_reloc.proofs.Rests.{reads_rest}
+use Rattle.f2_reloc.proofs.Rests.{own_files, reads_rest}
 use Rattle.f2_reloc.proofs.Steps.{some_has, err_has}
 use Rattle.f2_reloc.proofs.Way.{way_none}
 use Rattle.f2_reloc.proofs.emptying.defrag.Goals as goal
@@ -23,7 +22,7 @@ returns-in_err-batches-clause-no_space g c = λ need have e image told.
 pub returns-in_err-batches-clause-any_moment : goal.returns-in_err-batches-clause-any_moment
 returns-in_err-batches-clause-any_moment g c = λ calm image told.
     let d = c.args.d.now in
-    reads_rest c.planned.ensures.reads (at_rest (g.D.Disk.state d) image (λ left. (is_checked left ≡ true) × (tree left ≡ tree image)) (g.met.D.Disk.only_now d) (λ x left. g.met.D.Disk.settled d x calm left) told (c.requires.checked image told, refl))
+    reads_rest c.planned.ensures.reads (at_rest (g.D.Disk.state d) image (HasSameFiles image) (g.met.D.Disk.only_now d) (λ x left. g.met.D.Disk.settled d x calm left) told (own_files image (c.requires.checked image told)))
 
 pub move_all-requires-clause-targets : goal.move_all-requires-clause-targets
 move_all-requires-clause-targets g c = λ image now.
@@ -61,7 +60,7 @@ returns-in-Some-clause-any_moment g c = λ calm image told.
     let d = c.args.d.now in
     let reads = c.planned.ensures.reads in
     reads_first reads c.planned.ensures.goes.later
-    (at_rest (g.D.Disk.state d) image (λ left. (is_checked left ≡ true) × (tree left ≡ tree image)) (g.met.D.Disk.only_now d) (λ x left. g.met.D.Disk.settled d x calm left) told (c.requires.checked image told, refl))
+    (at_rest (g.D.Disk.state d) image (HasSameFiles image) (g.met.D.Disk.only_now d) (λ x left. g.met.D.Disk.settled d x calm left) told (own_files image (c.requires.checked image told)))
     (c.move_all.ensures.any_moment (reads.pending ∙ calm) image (reads.told ∙ told))
 
 pub returns-in-Some-clause-goes : goal.returns-in-Some-clause-goes
@@ -80,4 +79,4 @@ returns-in-None-clause-emptied g c = λ image told.
 pub returns-in-None-clause-any_moment : goal.returns-in-None-clause-any_moment
 returns-in-None-clause-any_moment g c = λ calm image told.
     let d = c.args.d.now in
-    reads_rest c.planned.ensures.reads (at_rest (g.D.Disk.state d) image (λ left. (is_checked left ≡ true) × (tree left ≡ tree image)) (g.met.D.Disk.only_now d) (λ x left. g.met.D.Disk.settled d x calm left) told (c.requires.checked image told, refl))
+    reads_rest c.planned.ensures.reads (at_rest (g.D.Disk.state d) image (HasSameFiles image) (g.met.D.Disk.only_now d) (λ x left. g.met.D.Disk.settled d x calm left) told (own_files image (c.requires.checked image told)))

@@ -1,18 +1,17 @@
-use Rattle.std.proofs.Common.{rules, ◌≡◌, ◌≤◌, ◌<◌, ◌+◌, ℕ, List, All, length, get_or, map, true, refl, sym, ap, subst, ◌∙◌, arith}
+use Rattle.std.proofs.Common.{rules, ◌≡◌, ◌≤◌, ◌<◌, ◌+◌, ℕ, List, All, length, get_or, map, refl, sym, ap, subst, ◌∙◌, arith}
 use Rattle.std.specs.Prelude.{drop}
 use Rattle.std.proofs.lemmas.List.{length-drop}
 use Rattle.std.proofs.lemmas.List.Elements.{All-drop}
 use Rattle.f2_bytes.specs.declared.layout.Layout.{Layout}
 use Rattle.f2_bytes.specs.Bytes.{Image}
-use Rattle.f2_bytes.specs.Check.{is_checked}
-use Rattle.f2_bytes.specs.Tree.{tree}
+use Rattle.f2_commit.specs.Moves.{HasSameFiles}
 use Rattle.f2_disk.proofs.Runs.{started, at_rest, goes_then, was_told}
 use Rattle.f2_view.specs.Mounted.{layout_in, IsMountOf}
 use Rattle.f2_view.proofs.TableReadings.{own_layout}
 use Rattle.f2_reloc.specs.Emptying.{part_of, end_of, moved_with, IsReady, HasStepped, IsOnWay}
 use Rattle.f2_reloc.specs.declared.batches.Batch.{Batch}
 use Rattle.f2_commit.specs.declared.relocating.Moved.{Moved}
-use Rattle.f2_reloc.proofs.Rests.{told_once, then_same}
+use Rattle.f2_reloc.proofs.Rests.{own_files, files_then, told_once, then_same}
 use Rattle.f2_reloc.proofs.Steps.{stepped_kept, moved_once}
 use Rattle.f2_reloc.proofs.WaySteps.{ways_start, ways_ready, ways_on, ways_end}
 use Rattle.f2_reloc.proofs.emptying.move_all.Goals as goal
@@ -34,14 +33,13 @@ loop-batch-init g c =
             image,
             told,
             of,
-            h,
-            refl,
+            own_files image h,
             λ target down chosen enough.
                 ways_start image (layout_in c.args.m) (own_layout image c.args.m of) c.args.range c.requires.range c.args.batches.now c.args.targets.now target down h (c.requires.cut image told) chosen enough,
           );
       any_moment = λ calm image told.
-          started (g.D.Disk.state d) (λ left. (is_checked left ≡ true) × (tree left ≡ tree image))
-          (at_rest (g.D.Disk.state d) image (λ left. (is_checked left ≡ true) × (tree left ≡ tree image)) (g.met.D.Disk.only_now d) (λ x left. g.met.D.Disk.settled d x calm left) told (c.requires.checked image told, refl));
+          started (g.D.Disk.state d) (HasSameFiles image)
+          (at_rest (g.D.Disk.state d) image (HasSameFiles image) (g.met.D.Disk.only_now d) (λ x left. g.met.D.Disk.settled d x calm left) told (own_files image (c.requires.checked image told)));
     }
 
 pub returns-clause-moved : goal.returns-clause-moved
@@ -53,7 +51,7 @@ returns-clause-moved g c = λ image told.
       way.1,
       way.2,
       λ target down chosen enough.
-          ways_end image (layout_in c.args.m) (own_layout image c.args.m of) c.args.range c.requires.range c.args.batches.now c.args.targets.now target down c.loop-batch.taken c.loop-batch.batch-index c.loop-batch.moved way.0 (omega (arith, past)) chosen enough (way.5 target down chosen enough),
+          ways_end image (layout_in c.args.m) (own_layout image c.args.m of) c.args.range c.requires.range c.args.batches.now c.args.targets.now target down c.loop-batch.taken c.loop-batch.batch-index c.loop-batch.moved way.0 (omega (arith, past)) chosen enough (way.4 target down chosen enough),
     )
 
 pub move_batch-requires-clause-below : goal.move_batch-requires-clause-below
@@ -87,19 +85,19 @@ move_batch-requires-clause-ready g c = λ now told.
     (subst (λ (l : Layout). IsReady now (part_of l range batch) (drop taken targets)) (sym so_far.layout)
     (subst (λ (x : Image). IsReady x (part_of (layout_in c.args.m) range batch) (drop taken targets)) (told_once way.1 told)
     (ways_ready was.0 (layout_in c.args.m) (own_layout was.0 c.args.m (c.requires.of_image was.0 was.1)) range c.requires.range batches targets chosen.target chosen.down taken i (record { first = 0; end = 0 }) c.loop-batch.moved way.0 c.loop-batch-test.true
-    (way.5 chosen.target chosen.down chosen.chosen chosen.enough))))
+    (way.4 chosen.target chosen.down chosen.chosen chosen.enough))))
 
 pub returns-in_err-n-clause-either : goal.returns-in_err-n-clause-either
 returns-in_err-n-clause-either g c = λ image told.
     let way = c.loop-batch.invariant.way image told in
     let now = c.move_batch.ensures.either way.0 way.1 in
-    (now.0, now.1, now.2, now.3 ∙ way.4)
+    (now.0, now.1, files_then image way.0 now.0 way.3 now.2)
 
 pub returns-in_err-n-clause-any_moment : goal.returns-in_err-n-clause-any_moment
 returns-in_err-n-clause-any_moment g c = λ calm image told.
     let so_far = c.loop-batch.invariant in
     let way = so_far.way image told in
-    then_same image way.0 so_far.goes.later way.4 (so_far.any_moment calm image told) (c.move_batch.ensures.any_moment (so_far.calm calm) way.0 way.1)
+    then_same image way.0 so_far.goes.later way.3 (so_far.any_moment calm image told) (c.move_batch.ensures.any_moment (so_far.calm calm) way.0 way.1)
 
 pub returns-in_err-n-clause-goes : goal.returns-in_err-n-clause-goes
 returns-in_err-n-clause-goes g c = goes_then c.loop-batch.invariant.goes c.move_batch.ensures.goes
@@ -142,18 +140,17 @@ loop-batch-preserved g c =
           let stepped : HasStepped way.0 (part_of (layout_in c.args.m) range batch) (drop taken targets) step new.0
           = subst (λ (l : Layout). HasStepped way.0 (part_of l range batch) (drop taken targets) step new.0) so_far.layout
           (subst (λ (ts : List ℕ). HasStepped way.0 (part_of (layout_in c.loop-batch.m) range batch) ts step new.0) c.left.ensures new.3) in
-          let kept = stepped_kept way.0 (part_of (layout_in c.args.m) range batch) (drop taken targets) step new.0 stepped way.3 in (
+          let kept = stepped_kept way.0 (part_of (layout_in c.args.m) range batch) (drop taken targets) step new.0 stepped way.3.0 in (
             new.0,
             new.1,
             new.2,
-            kept.0,
-            kept.1 ∙ way.4,
+            files_then image way.0 new.0 way.3 kept,
             λ target down chosen enough.
                 subst (λ (x : Moved). IsOnWay image range.start (end_of range) target down (drop (taken + step.targets) targets) x (map (part_of (layout_in c.args.m) range) (drop (i + 1) batches)) new.0) more
                 (ways_on image (layout_in c.args.m) (own_layout image c.args.m (c.requires.of_image image told)) range c.requires.range batches targets target down taken i (record { first = 0; end = 0 }) c.loop-batch.moved way.0 step new.0 c.loop-batch-test.true
-                (way.5 target down chosen enough) stepped),
+                (way.4 target down chosen enough) stepped),
           );
       any_moment = λ calm image told.
           let way = so_far.way image told in
-          then_same image way.0 so_far.goes.later way.4 (so_far.any_moment calm image told) (c.move_batch.ensures.any_moment (so_far.calm calm) way.0 way.1);
+          then_same image way.0 so_far.goes.later way.3 (so_far.any_moment calm image told) (c.move_batch.ensures.any_moment (so_far.calm calm) way.0 way.1);
     }

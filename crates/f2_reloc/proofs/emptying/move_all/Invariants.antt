@@ -1,10 +1,9 @@
-use Rattle.std.proofs.Common.{◌≡◌, ◌+◌, ◌*◌, ◌≤◌, Bool, false, true, Some, ℕ, length, map}
+use Rattle.std.proofs.Common.{◌≡◌, ◌+◌, ◌*◌, ◌≤◌, Bool, false, Some, ℕ, length, map}
 use Rattle.std.specs.Prelude.{drop}
 use Rattle.f2_bytes.specs.Bytes.{Image}
-use Rattle.f2_bytes.specs.Check.{is_checked}
 use Rattle.f2_bytes.specs.Checkpoint.{checkpoint_ver}
 use Rattle.f2_bytes.specs.Defragment.{defrag_targets, defrag_need}
-use Rattle.f2_bytes.specs.Tree.{tree}
+use Rattle.f2_commit.specs.Moves.{HasSameFiles}
 use Rattle.f2_disk.specs.Disk.{Goes, LeavesOnly}
 use Rattle.f2_view.specs.Mounted.{layout_in, IsMountOf}
 use Rattle.f2_reloc.specs.Emptying.{part_of, end_of, IsOnWay}
@@ -21,9 +20,9 @@ invariant-loop-batch g l = record {
   goes : Goes (g.D.Disk.state l.initial.d) (g.D.Disk.state l.d);
   calm : (g.D.Disk.state l.initial.d).pending ≡ false → (g.D.Disk.state l.d).pending ≡ false;
   way : (image : Image) → (g.D.Disk.state l.initial.d).told ≡ Some image
-      → (now : Image) × ((g.D.Disk.state l.d).told ≡ Some now) × IsMountOf now l.m × (is_checked now ≡ true) × (tree now ≡ tree image)
+      → (now : Image) × ((g.D.Disk.state l.d).told ≡ Some now) × IsMountOf now l.m × HasSameFiles image now
       × ((target : ℕ) (down : Bool) → l.targets ≡ defrag_targets image l.range.start (end_of l.range) target down → defrag_need image l.range.start (end_of l.range) ≤ length l.targets
       → IsOnWay image l.range.start (end_of l.range) target down (drop l.taken l.targets) l.moved (map (part_of (layout_in l.initial.m) l.range) (drop l.batch-index l.batches)) now);
   any_moment : (g.D.Disk.state l.initial.d).pending ≡ false → (image : Image) → (g.D.Disk.state l.initial.d).told ≡ Some image
-      → LeavesOnly (g.D.Disk.state l.initial.d) (g.D.Disk.state l.d) (λ left. (is_checked left ≡ true) × (tree left ≡ tree image));
+      → LeavesOnly (g.D.Disk.state l.initial.d) (g.D.Disk.state l.d) (HasSameFiles image);
 }

@@ -1,16 +1,16 @@
-use Rattle.std.proofs.Common.{◌≡◌, ◌≤◌, All, length, true, ⊎_elim, refl, sym, ap, subst, ◌∙◌, arith}
+use Rattle.std.proofs.Common.{◌≡◌, ◌≤◌, All, length, true, ⊎_elim, sym, ap, subst, ◌∙◌, arith}
 use Rattle.std.proofs.lemmas.Bool.{eqb-true, eqb-false, cases_lt}
 use Rattle.std.proofs.lemmas.List.{nil_from_length}
 use Rattle.std.proofs.lemmas.List.Elements.{filter_passes}
 use Rattle.std.proofs.lemmas.Result.{IfOk-weaker}
-use Rattle.f2_bytes.specs.Check.{is_checked, is_marked}
-use Rattle.f2_bytes.specs.Tree.{tree}
+use Rattle.f2_bytes.specs.Check.{is_marked}
+use Rattle.f2_commit.specs.Moves.{HasSameFiles}
 use Rattle.f2_disk.proofs.Runs.{reads_first, at_rest, goes_then}
 use Rattle.f2_commit.specs.Moves.{AreTargets}
 use Rattle.f2_view.specs.Mounted.{layout_in, IsMountOf}
 use Rattle.f2_view.proofs.TableReadings.{own_layout}
 use Rattle.f2_reloc.specs.Emptying.{part_of}
-use Rattle.f2_reloc.proofs.Rests.{reads_rest}
+use Rattle.f2_reloc.proofs.Rests.{own_files, reads_rest}
 use Rattle.f2_reloc.proofs.Steps.{ok_both, stepped_idle, stepped_done}
 use Rattle.f2_reloc.proofs.moving.move_batch.Goals as goal
 use Rattle.f2_reloc.proofs.moving.move_batch.Goals.{then-is_empty-via-then-is_empty, then-is_empty-via-else-is_empty+then-len-gt-MOST}
@@ -18,7 +18,7 @@ use Rattle.f2_reloc.proofs.moving.move_batch.Goals.{then-is_empty-via-then-is_em
 pub returns-in_err-addresses-clause-any_moment : goal.returns-in_err-addresses-clause-any_moment
 returns-in_err-addresses-clause-any_moment g c = λ calm image told.
     let d = c.args.d.now in
-    reads_rest c.valid_in.ensures.reads (at_rest (g.D.Disk.state d) image (λ left. (is_checked left ≡ true) × (tree left ≡ tree image)) (g.met.D.Disk.only_now d) (λ x left. g.met.D.Disk.settled d x calm left) told ((c.requires.ready image told).checked, refl))
+    reads_rest c.valid_in.ensures.reads (at_rest (g.D.Disk.state d) image (HasSameFiles image) (g.met.D.Disk.only_now d) (λ x left. g.met.D.Disk.settled d x calm left) told (own_files image (c.requires.ready image told).checked))
 
 pub returns-then-is_empty-clause-moved : goal.returns-then-is_empty-clause-moved
 returns-then-is_empty-clause-moved g c = λ image told.
@@ -42,7 +42,7 @@ returns-then-is_empty-clause-moved g c = λ image told.
 pub returns-then-is_empty-clause-any_moment : goal.returns-then-is_empty-clause-any_moment
 returns-then-is_empty-clause-any_moment g c = λ calm image told.
     let d = c.args.d.now in
-    reads_rest c.valid_in.ensures.reads (at_rest (g.D.Disk.state d) image (λ left. (is_checked left ≡ true) × (tree left ≡ tree image)) (g.met.D.Disk.only_now d) (λ x left. g.met.D.Disk.settled d x calm left) told ((c.requires.ready image told).checked, refl))
+    reads_rest c.valid_in.ensures.reads (at_rest (g.D.Disk.state d) image (HasSameFiles image) (g.met.D.Disk.only_now d) (λ x left. g.met.D.Disk.settled d x calm left) told (own_files image (c.requires.ready image told).checked))
 
 pub move_valid-requires-clause-of_image : goal.move_valid-requires-clause-of_image
 move_valid-requires-clause-of_image g c = λ image told. subst (IsMountOf image) (sym c.valid_in.ensures.mount) (c.requires.of_image image (sym c.valid_in.ensures.reads.told ∙ told))
@@ -85,7 +85,7 @@ returns-clause-any_moment g c = λ calm image told.
     let d = c.args.d.now in
     let reads = c.valid_in.ensures.reads in
     reads_first reads c.valid_in.ensures.goes.later
-    (at_rest (g.D.Disk.state d) image (λ left. (is_checked left ≡ true) × (tree left ≡ tree image)) (g.met.D.Disk.only_now d) (λ x left. g.met.D.Disk.settled d x calm left) told ((c.requires.ready image told).checked, refl))
+    (at_rest (g.D.Disk.state d) image (HasSameFiles image) (g.met.D.Disk.only_now d) (λ x left. g.met.D.Disk.settled d x calm left) told (own_files image (c.requires.ready image told).checked))
     (c.move_valid.ensures.any_moment (reads.pending ∙ calm) image (reads.told ∙ told))
 
 pub returns-clause-goes : goal.returns-clause-goes

@@ -1,14 +1,13 @@
-use Rattle.std.proofs.Common.{◌≡◌, true, refl, sym, ◌∙◌, arith}
-use Rattle.f2_bytes.specs.Check.{is_checked}
-use Rattle.f2_bytes.specs.Tree.{tree}
+use Rattle.std.proofs.Common.{refl, sym, ◌∙◌, arith}
+use Rattle.f2_commit.specs.Moves.{HasSameFiles}
 use Rattle.f2_disk.proofs.Runs.{reads_first, at_rest, goes_then}
-use Rattle.f2_reloc.proofs.Rests.{reads_rest}
+use Rattle.f2_reloc.proofs.Rests.{own_files, reads_rest}
 use Rattle.f2_reloc.proofs.moving.move_valid.Goals as goal
 
 pub returns-in_err-takes-clause-any_moment : goal.returns-in_err-takes-clause-any_moment
 returns-in_err-takes-clause-any_moment g c = λ calm image told.
     let d = c.args.d.now in
-    reads_rest c.need_for.ensures.reads (at_rest (g.D.Disk.state d) image (λ left. (is_checked left ≡ true) × (tree left ≡ tree image)) (g.met.D.Disk.only_now d) (λ x left. g.met.D.Disk.settled d x calm left) told (c.requires.checked image told, refl))
+    reads_rest c.need_for.ensures.reads (at_rest (g.D.Disk.state d) image (HasSameFiles image) (g.met.D.Disk.only_now d) (λ x left. g.met.D.Disk.settled d x calm left) told (own_files image (c.requires.checked image told)))
 
 pub returns-then-takes-targets-clause-moved : goal.returns-then-takes-targets-clause-moved
 returns-then-takes-targets-clause-moved g c = λ image told.
@@ -20,7 +19,7 @@ returns-then-takes-targets-clause-moved g c = λ image told.
 pub returns-then-takes-targets-clause-any_moment : goal.returns-then-takes-targets-clause-any_moment
 returns-then-takes-targets-clause-any_moment g c = λ calm image told.
     let d = c.args.d.now in
-    reads_rest c.need_for.ensures.reads (at_rest (g.D.Disk.state d) image (λ left. (is_checked left ≡ true) × (tree left ≡ tree image)) (g.met.D.Disk.only_now d) (λ x left. g.met.D.Disk.settled d x calm left) told (c.requires.checked image told, refl))
+    reads_rest c.need_for.ensures.reads (at_rest (g.D.Disk.state d) image (HasSameFiles image) (g.met.D.Disk.only_now d) (λ x left. g.met.D.Disk.settled d x calm left) told (own_files image (c.requires.checked image told)))
 
 pub shift-requires-clause-targets : goal.shift-requires-clause-targets
 shift-requires-clause-targets g c = λ image told. c.requires.targets image (sym c.need_for.ensures.reads.told ∙ told)
@@ -30,7 +29,7 @@ returns-in_err-n-clause-any_moment g c = λ calm image told.
     let d = c.args.d.now in
     let reads = c.need_for.ensures.reads in
     reads_first reads c.need_for.ensures.goes.later
-    (at_rest (g.D.Disk.state d) image (λ left. (is_checked left ≡ true) × (tree left ≡ tree image)) (g.met.D.Disk.only_now d) (λ x left. g.met.D.Disk.settled d x calm left) told (c.requires.checked image told, refl))
+    (at_rest (g.D.Disk.state d) image (HasSameFiles image) (g.met.D.Disk.only_now d) (λ x left. g.met.D.Disk.settled d x calm left) told (own_files image (c.requires.checked image told)))
     (c.shift.ensures.any_moment (reads.pending ∙ calm) image (reads.told ∙ told))
 
 pub returns-in_err-n-clause-goes : goal.returns-in_err-n-clause-goes
@@ -46,7 +45,7 @@ returns-clause-any_moment g c = λ calm image told.
     let d = c.args.d.now in
     let reads = c.need_for.ensures.reads in
     reads_first reads c.need_for.ensures.goes.later
-    (at_rest (g.D.Disk.state d) image (λ left. (is_checked left ≡ true) × (tree left ≡ tree image)) (g.met.D.Disk.only_now d) (λ x left. g.met.D.Disk.settled d x calm left) told (c.requires.checked image told, refl))
+    (at_rest (g.D.Disk.state d) image (HasSameFiles image) (g.met.D.Disk.only_now d) (λ x left. g.met.D.Disk.settled d x calm left) told (own_files image (c.requires.checked image told)))
     (c.shift.ensures.any_moment (reads.pending ∙ calm) image (reads.told ∙ told))
 
 pub returns-clause-goes : goal.returns-clause-goes
