@@ -1,21 +1,24 @@
 -- What emptying a range answers, puts and leaves.
-use Rattle.std.proofs.Common.{◌≡◌, ◌∙◌, ℕ, ◌≤◌, ◌<◌, true, cond, List, arith, Option, Some, None, Result, Ok, refl, sym, ap, subst, inl, inr, true≢false}
-use Rattle.std.specs.Prelude.{nat_lt, flat_map, false, IsFalse}
+use Rattle.std.proofs.Common.{◌≡◌, ◌∙◌, ℕ, ◌≤◌, ◌<◌, Bool, true, cond, List, arith, Option, Some, None, Result, Ok, refl, sym, ap, subst, inl, inr, true≢false}
+use Rattle.std.specs.Prelude.{nat_lt, flat_map, false, option_map, IsFalse}
 use Rattle.std.proofs.lemmas.Bool.{le-ltb, lt-ltb}
-use Rattle.f2_bytes.specs.Bytes.{Image}
+use Rattle.f2_bytes.specs.Bytes.{Block, Image, block_at}
 use Rattle.f2_bytes.specs.Check.{is_checked, is_marked}
 use Rattle.f2_bytes.specs.Defragment.{defrag_need, defrag_have}
+use Rattle.f2_bytes.specs.Superblock.{passes, copy_of, super_of}
 use Rattle.f2_check.specs.Verdicts.{IsVerdict, Says}
 use Rattle.f2_check.specs.declared.verdict.Verdict.{Verdict}
 use Rattle.f2_check.specs.declared.verdict.Verdict.TheVariants as verdict
-use Rattle.f2_disk.specs.Disk.{State, Reads}
-use Rattle.f2_disk.proofs.Runs.{at_rest, quiet_on, reads_first, started}
+use Rattle.f2_disk.specs.Disk.{State, Reads, LeavesOnly}
+use Rattle.f2_disk.proofs.Runs.{at_rest, quiet_on, reads_first, started, weaker}
+use Rattle.f2_super.specs.Load.{KeepsSuper}
+use Rattle.f2_commit.specs.Moves.{HasSameFiles}
 use Rattle.f2_reloc.specs.Emptying.{IsEmptied}
 use Rattle.f2_commit.specs.declared.relocating.Moved.{Moved}
 use Rattle.f2_view.specs.Mounted.{Mounted, layout_in}
 use Rattle.f2_view.specs.declared.mounting.MountRefusal.{MountRefusal}
 use Rattle.f2_top.specs.Answers.{IsWhole}
-use Rattle.f2_top.specs.Ranges.{Aim, HasNone, HasTreeOf, KeepsTreeAlways, LeavesEmptied, lines_unless_failing, moves_line, aim_of, outside_aim, space_answer, unless_failing, unless_outside}
+use Rattle.f2_top.specs.Ranges.{Aim, HasNone, KeepsTreeAlways, LeavesEmptied, lines_unless_failing, moves_line, aim_of, outside_aim, space_answer, unless_failing, unless_outside}
 use Rattle.f2_top.specs.Run.{LeavesMoved, least_failing, move_answer, move_lines, said_answer, said_lines}
 use Rattle.f2_top.specs.Text.{defect_line, defect_lines, moved_line}
 use Rattle.f2_top.specs.declared.moves.Wish.{Wish}
@@ -124,15 +127,49 @@ module _ (w : Wish) (image : Image) (m : Mounted) (r : Result Mounted MountRefus
       let own : LeavesMoved w image (Ok m) left = subst (λ (answer : Answer). LeavesEmptied image to answer left) (sym (ap (λ o. unless_outside o whole) none)) there in
       subst (λ (x : Result Mounted MountRefusal). LeavesMoved w image x left) same own
 
+-- ---- the superblock
+
+-- the copy that counts of these two
+abbrev super_from : Block → Block → Option (List ℕ)
+super_from a b = cond (passes a) (Some (copy_of a)) (cond (passes b) (Some (copy_of b)) None)
+
+picks : (P : ℕ → List ℕ) (a b : Bool) → option_map P (cond a (Some 0) (cond b (Some 1) None)) ≡ cond a (Some (P 0)) (cond b (Some (P 1)) None)
+picks P true b = refl
+picks P false true = refl
+picks P false false = refl
+
+super_is : (image : Image) → super_of image ≡ super_from (block_at image 0) (block_at image 1)
+super_is image = picks (λ n. copy_of (block_at image n)) (passes (block_at image 0)) (passes (block_at image 1))
+
+super_kept : (image left : Image) → ((n : ℕ) → n < 2 → block_at left n ≡ block_at image n) → super_of left ≡ super_of image
+super_kept image left same =
+    let first = same 0 (omega arith) in
+    let second = same 1 (omega arith) in
+    super_is left ∙ (λ i. super_from (first i) (second i)) ∙ sym (super_is image)
+
 -- ---- at any moment
+
+-- nothing is done
+pub same_reads : (s : State) → Reads s s
+same_reads s = record { writes = refl; told = refl; pending = refl; crash = λ c may. may; leaves = λ c may. may; since = λ t c low left. left }
 
 -- reads, and a run after them that keeps the tree, or none
 module _ {old : State} (only_now : (c : Image) → old.left_since old.moment c → old.may_leave c) (settled : (c : Image) → old.pending ≡ false → old.may_leave c → old.told ≡ Some c) where
   pub always_then : {mid new : State} → Reads old mid → old.moment ≤ mid.moment → KeepsTreeAlways mid new → KeepsTreeAlways old new
   always_then reads later run = λ calm image told checked.
-      reads_first reads later (at_rest old image (HasTreeOf image) only_now (λ c left. settled c calm left) told (checked, refl)) (run (reads.pending ∙ calm) image (reads.told ∙ told) checked)
+      reads_first reads later (at_rest old image (HasSameFiles image) only_now (λ c left. settled c calm left) told (checked, refl, λ n low. refl)) (run (reads.pending ∙ calm) image (reads.told ∙ told) checked)
 
   pub always_read : {new : State} → Reads old new → KeepsTreeAlways old new
   always_read {new = new} reads = λ calm image told checked.
-      let start = started old (HasTreeOf image) (at_rest old image (HasTreeOf image) only_now (λ c left. settled c calm left) told (checked, refl)) in
+      let start = started old (HasSameFiles image) (at_rest old image (HasSameFiles image) only_now (λ c left. settled c calm left) told (checked, refl, λ n low. refl)) in
       quiet_on {new = new} start (omega arith) reads.since
+
+  -- moves keep the superblock, if they move nothing of an image that is not checked
+  pub super_stays : {new : State} → ((image : Image) → old.told ≡ Some image → is_checked image ≡ false → Reads old new) → KeepsTreeAlways old new → KeepsSuper old new
+  super_stays {new = new} idle run = λ calm image told s has. by calm image told s has (is_checked image) refl
+    where
+      by : old.pending ≡ false → (image : Image) → old.told ≡ Some image → (s : List ℕ) → super_of image ≡ Some s → (b : Bool) → is_checked image ≡ b → LeavesOnly old new (λ c. super_of c ≡ Some s)
+      by calm image told s has true holds = weaker (HasSameFiles image) (λ c. super_of c ≡ Some s) (λ c kept. super_kept image c kept.2 ∙ has) (run calm image told holds)
+      by calm image told s has false fails =
+          let start = started old (λ c. super_of c ≡ Some s) (at_rest old image (λ c. super_of c ≡ Some s) only_now (λ c left. settled c calm left) told has) in
+          quiet_on {new = new} start (omega arith) (idle image told fails).since

@@ -4,8 +4,8 @@ use Rattle.f2_bytes.specs.declared.layout.Layout.{Layout}
 use Rattle.f2_bytes.specs.Bytes.{Image}
 use Rattle.f2_bytes.specs.Check.{defects, is_checked, is_marked}
 use Rattle.f2_bytes.specs.Defragment.{Moves, range_start, range_end, range_target, outside_range, defrag_need, defrag_have, defrag_moves}
-use Rattle.f2_bytes.specs.Tree.{tree}
 use Rattle.f2_disk.specs.Disk.{State, LeavesOnly}
+use Rattle.f2_commit.specs.Moves.{HasSameFiles}
 use Rattle.f2_reloc.specs.Emptying.{IsEmptied, end_of}
 use Rattle.f2_reloc.specs.declared.batches.Range.{Range}
 use Rattle.f2_commit.specs.declared.relocating.Moved.{Moved}
@@ -71,18 +71,14 @@ LeavesEmptied image a answer left = left ≡ image
 
 -- ---- whatever it answers
 
--- an image is checked, with the tree of another one
-abbrev pub HasTreeOf : Image → Image → Type 0
-HasTreeOf image left = IsTrue (is_checked left) × (tree left ≡ tree image)
-
--- a disk that told a checked image tells one with the same tree
+-- a disk that told a checked image tells one with the same tree and the same superblock copies
 abbrev pub KeepsTree : State → State → Type 0
-KeepsTree old new = (image : Image) → old.told ≡ Some image → IsTrue (is_checked image) → (now : Image) × (new.told ≡ Some now) × HasTreeOf image now
+KeepsTree old new = (image : Image) → old.told ≡ Some image → IsTrue (is_checked image) → (now : Image) × (new.told ≡ Some now) × HasSameFiles image now
 
 -- Where nothing was pending, a crash at any moment since then leaves such a one.
 abbrev pub KeepsTreeAlways : State → State → Type 0
 KeepsTreeAlways old new =
-    old.pending ≡ false → (image : Image) → old.told ≡ Some image → IsTrue (is_checked image) → LeavesOnly old new (HasTreeOf image)
+    old.pending ≡ false → (image : Image) → old.told ≡ Some image → IsTrue (is_checked image) → LeavesOnly old new (HasSameFiles image)
 
 -- no block of a range is valid, or the image is not checked, so that nothing moves
 abbrev pub HasNone : Image → Aim → Type 0

@@ -7,7 +7,7 @@ use crate::jobs::Job;
 use crate::tables::lines_of;
 use crate::tests::words;
 use crate::top::perform;
-use crate::user_image::user_image;
+use crate::user_image::{full_image, user_image};
 use crate::{Answer, run};
 use f2_disk::{Disk, MemoryDisk, MemorySink, StopDisk, Torn};
 use std::alloc::Global;
@@ -182,5 +182,19 @@ fn the_whole_main_area_has_no_targets(rt: HostRuntime) -> Result<(), Fail> {
     assert_eq!(rt; answer, Answer::NoSpace { need: 2, have: 0 });
     assert_eq!(rt; answer.status(), 10);
     assert_eq!(rt; out.bytes(), b"no space: need 2, have 0\n".as_slice());
+    Ok(())
+}
+
+#[test]
+fn an_image_without_a_free_segment_has_no_targets(rt: HostRuntime) -> Result<(), Fail> {
+    let alloc = rt.alloc();
+    let mut disk = full_image(alloc)?;
+    let (answer, _) = tree_of(alloc, &mut disk);
+    assert_eq!(rt; answer, Answer::Done);
+    let writes = disk.writes();
+    let words = words(alloc, &["defrag", "-s", "4096", "-l", "512"])?;
+    let text = printed(alloc, &words, &mut disk)?;
+    assert_eq!(rt; text.as_str(), "no space: need 2, have 0/");
+    assert_eq!(rt; disk.writes(), writes);
     Ok(())
 }

@@ -53,7 +53,7 @@ fn answer<D: Disk, O: Sink>(
     ensures durable { IsSuccess result → (D.state disk.old).pending ≡ false → (D.state disk.new).pending ≡ false }
     ensures either { moves_blocks job.now ≡ true → KeepsTree (D.state disk.old) (D.state disk.new) }
     ensures moving { moves_blocks job.now ≡ true → KeepsTreeAlways (D.state disk.old) (D.state disk.new) }
-    ensures any_moment { makes_image job.now ≡ false → moves_blocks job.now ≡ false → KeepsSuper (D.state disk.old) (D.state disk.new) }
+    ensures any_moment { makes_image job.now ≡ false → KeepsSuper (D.state disk.old) (D.state disk.new) }
     ensures goes { Goes (D.state disk.old) (D.state disk.new) }
     ensures sink_goes { O.faults out.old ≤ O.faults out.new }
 {
@@ -130,7 +130,7 @@ pub fn perform<D: Disk, O: Sink>(
         → IsAnswered job.now (D.state disk.old).size image result }
     ensures either { moves_blocks job.now ≡ true → KeepsTree (D.state disk.old) (D.state disk.new) }
     ensures moving { moves_blocks job.now ≡ true → KeepsTreeAlways (D.state disk.old) (D.state disk.new) }
-    ensures any_moment { makes_image job.now ≡ false → moves_blocks job.now ≡ false → KeepsSuper (D.state disk.old) (D.state disk.new) }
+    ensures any_moment { makes_image job.now ≡ false → KeepsSuper (D.state disk.old) (D.state disk.new) }
     ensures goes { Goes (D.state disk.old) (D.state disk.new) }
     ensures sink_goes { O.faults out.old ≤ O.faults out.new }
 {
@@ -192,12 +192,13 @@ pub fn run<D: Disk, O: Sink>(
         → ¬ (Rose (D.state disk.old).faults (D.state disk.new).faults) → ¬ (Rose (O.faults out.old) (O.faults out.new))
         → IsAnswered (job_of (map string_bytes words.now)) (D.state disk.old).size image result }
 
-    // Whatever defrag answers, a checked image stays one with the same tree; and so it does in a crash at any moment of it.
+    // Whatever defrag answers, a checked image stays one with the same tree and superblock copies; and so it does in a crash at
+    // any moment of it.
     ensures either { moves_blocks (job_of (map string_bytes words.now)) ≡ true → KeepsTree (D.state disk.old) (D.state disk.new) }
     ensures moving { moves_blocks (job_of (map string_bytes words.now)) ≡ true → KeepsTreeAlways (D.state disk.old) (D.state disk.new) }
 
-    // A crash at any moment of another run leaves an image with the same superblock, unless it makes a new one.
-    ensures any_moment { makes_image (job_of (map string_bytes words.now)) ≡ false → moves_blocks (job_of (map string_bytes words.now)) ≡ false → KeepsSuper (D.state disk.old) (D.state disk.new) }
+    // A crash at any moment leaves an image with the same superblock, unless it makes a new one.
+    ensures any_moment { makes_image (job_of (map string_bytes words.now)) ≡ false → KeepsSuper (D.state disk.old) (D.state disk.new) }
     ensures goes { Goes (D.state disk.old) (D.state disk.new) }
     ensures sink_goes { O.faults out.old ≤ O.faults out.new }
 {

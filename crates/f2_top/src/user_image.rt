@@ -400,3 +400,32 @@ pub(crate) fn chain_image(alloc: Global) -> Result<MemoryDisk, Fail> {
     put_tables(&mut laid, 0)?;
     Ok(laid.disk)
 }
+
+// Lays out the file 4, whose node stands in segment 6, with a block in each of the 17 segments behind it.
+fn lay_spread(disk: &mut MemoryDisk) -> Result<(), Fail> {
+    let mut b = inode(0x81A4, 0, 1, 69_632, 18);
+    for k in 0..17u32 {
+        set(
+            &mut b,
+            360 + 4 * k as usize,
+            &(7680 + 512 * k).to_le_bytes(),
+        );
+        put_segment(disk, 7 + k, false, &[(4, k)])?;
+    }
+    set(&mut b, 4072, &[4]);
+    set(&mut b, 4076, &[4]);
+    store(disk, 7168, &b)?;
+    put_segment(disk, 6, true, &[(4, 4)])?;
+    put_node(disk, 4, 4, 7168)
+}
+
+// An image of 24 main segments with no free one: each that no log fills has a block of the file 4, or its node.
+pub(crate) fn full_image(alloc: Global) -> Result<MemoryDisk, Fail> {
+    let mut disk = new_image(alloc, 16384, 0)?;
+    lay_spread(&mut disk)?;
+    let names: [(&[u8], u32, u8); 3] = [(b".", 3, 2), (b"..", 3, 2), (b"f", 4, 1)];
+    put_root(alloc, &mut disk, &names, 2)?;
+    put_summaries(&mut disk)?;
+    put_heads(&mut disk, 20, 2, 2, 0)?;
+    Ok(disk)
+}

@@ -6,7 +6,7 @@ use Rattle.f2_check.specs.declared.verdict.Verdict.TheVariants as verdict
 use Rattle.f2_top.specs.Ranges.{aim_at, space_answer, unless_failing, lines_unless_failing, moves_line, LeavesEmptied}
 use Rattle.f2_top.specs.Text.{IsFront, defect_line}
 use Rattle.f2_top.specs.declared.answer.Answer.TheVariants.{DiskFault, NoMemory, SinkFault}
-use Rattle.f2_top.proofs.Moving.{defects_answer, defects_left, defects_text, defects_whole}
+use Rattle.f2_top.proofs.Moving.{always_read, defects_answer, defects_left, defects_text, defects_whole, same_reads}
 use Rattle.f2_top.proofs.Readable.{clean_none}
 use Rattle.f2_top.proofs.moves.empty_if_clean.Goals as goal
 
@@ -59,3 +59,8 @@ returns-in-Defects-clause-image g c = λ image told fault memory.
     let found = verdict.Defects c.in-Defects.rule c.in-Defects.list c.in-Defects.count in
     let says = subst (IsVerdict image 1) c.in-Defects.is (c.requires.verdict image told) in
     (image, told, defects_left image aim found (space_answer image aim) tt says)
+
+pub returns-in-Defects-clause-any_moment : goal.returns-in-Defects-clause-any_moment
+returns-in-Defects-clause-any_moment g c =
+    let d = c.args.disk.now in
+    always_read (g.met.D.Disk.only_now d) (λ x calm left. g.met.D.Disk.settled d x calm left) (same_reads (g.D.Disk.state d))

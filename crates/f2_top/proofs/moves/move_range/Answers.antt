@@ -17,4 +17,4 @@ pub returns-clause-emptied : goal.returns-clause-emptied
 returns-clause-emptied g c = λ image told. let all = c.in_ok-moved.ensures.emptied image told in (all.0, all.1, all.3)
 
 pub returns-clause-either : goal.returns-clause-either
-returns-clause-either g c = λ image told checked. let all = c.defrag.ensures.either image told in (all.0, all.1, (all.2, all.3))
+returns-clause-either g c = λ image told checked. c.defrag.ensures.either image told

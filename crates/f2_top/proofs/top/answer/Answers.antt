@@ -1,9 +1,10 @@
-use Rattle.std.proofs.Common.{◌≡◌, ◌∙◌, Some, rules, sym, subst}
+use Rattle.std.proofs.Common.{◌≡◌, ◌∙◌, inl, Some, rules, sym, subst}
 use Rattle.f2_top.specs.Answers.{IsWhole}
 use Rattle.f2_top.specs.Run.{AreLines, Leaves, MovesNone}
 use Rattle.f2_top.specs.declared.answer.Answer.{Answer}
 use Rattle.f2_top.specs.declared.answer.Answer.TheVariants.{Done}
 use Rattle.f2_top.specs.declared.jobs.Job.TheVariants.{Check, Tree, Dump, Defrag}
+use Rattle.f2_top.proofs.Moving.{super_stays}
 use Rattle.f2_top.proofs.Texts.{front_of}
 use Rattle.f2_top.proofs.top.answer.Goals as goal
 
@@ -50,3 +51,8 @@ pub returns-in-Some-Defrag-clause-none : goal.returns-in-Some-Defrag-clause-none
 returns-in-Some-Defrag-clause-none g c = λ image told none.
     let moves : c.args.job.now ≡ Some (Defrag c.in-Some-Defrag.start c.in-Some-Defrag.blocks c.in-Some-Defrag.target c.in-Some-Defrag.down) = search rules in
     c.empty_range.ensures.none image told (subst (λ j. MovesNone j image) moves none)
+
+pub returns-in-Some-Defrag-clause-any_moment : goal.returns-in-Some-Defrag-clause-any_moment
+returns-in-Some-Defrag-clause-any_moment g c = λ makes.
+    let d = c.args.disk.now in
+    super_stays (g.met.D.Disk.only_now d) (λ x calm left. g.met.D.Disk.settled d x calm left) (λ image told fails. c.empty_range.ensures.none image told (inl fails)) c.empty_range.ensures.any_moment
