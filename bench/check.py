@@ -11,12 +11,10 @@ import shutil
 import sys
 
 sys.dont_write_bytecode = True
-from comparing import SAMPLES, STARTS, compare, full_image
-from measuring import BLOCK, PROGRAM, mean_start, medians, print_row
+from comparing import SAMPLES, STARTS, compare, full_image, measure_growth
+from measuring import BLOCK, PROGRAM, mean_start, named_medians
 
 LARGE = 230_400  # blocks
-COUNTS = 5_000, 20_000, 80_000
-FILE = 3_000  # bytes: such a file stands in its inode, so that 80,000 of them find room
 
 
 def add_large(tree):
@@ -39,35 +37,15 @@ def compare_full(name, add, files):
     print()
 
 
-def small_files(count):
-    def add(tree):
-        for number in range(count):
-            folder = f"{tree}/{number // 500}"
-            os.makedirs(folder, exist_ok=True)
-            with open(f"{folder}/{number}", "wb") as file:
-                file.write(bytes([number % 251]) * FILE)
-
-    return add
-
-
-def measure_growth():
-    print(f"# growth: medians of {SAMPLES} samples of {STARTS} starts each")
-    print_row("small files", *COUNTS, "80,000 / 5,000", "wanted")
-    times = {}
-    for count in COUNTS:
-        with full_image(small_files(count), 0) as image:
-            cases = [(words,) for _, words, *_ in pairs(image)]
-            for (words,), time in medians(cases, lambda words: mean_start(words, STARTS), SAMPLES).items():
-                times[words[2:], count] = time / count * 1000
-    for options in dict.fromkeys(options for options, _ in times):
-        each = [times[options, count] for count in COUNTS]
-        print_row(" ".join(options), *(f"{time:.3f} us" for time in each), f"{each[-1] / each[0]:.4f}", "at most 1.3")
+def times_on(image):
+    cases = {name: (words,) for name, words, *_ in pairs(image)}
+    return named_medians(cases, lambda words: mean_start(words, STARTS), SAMPLES)
 
 
 def main():
     compare_full("20,000 files", lambda tree: None, 20_000)
     compare_full("a file of 900 MiB", add_large, 0)
-    measure_growth()
+    measure_growth(f"medians of {SAMPLES} samples of {STARTS} starts each", times_on)
 
 
 if __name__ == "__main__":

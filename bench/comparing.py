@@ -1,5 +1,5 @@
-"""What the benchmarks of dumps share: an image of 1 GiB with 20,000 files that the real mkfs.f2fs and sload.f2fs made, and the
-comparison of two programs.
+"""What the benchmarks on full images share: an image of 1 GiB that the real mkfs.f2fs and sload.f2fs made, with 20,000 files or
+others, the comparison of two programs, and the time for a file as files get more.
 """
 import os
 import shutil
@@ -19,6 +19,8 @@ BLOCKS = 262_144
 FILES = 20_000
 SAMPLES = 11
 STARTS = 3  # of each program, in each sample
+COUNTS = 5_000, 20_000, 80_000
+SMALL = 3_000  # bytes: such a file stands in its inode, so that 80,000 of them find room
 
 
 def make_full_image(image, tree, add, files=FILES):
@@ -89,3 +91,27 @@ def compare(image, comparisons, memory=16):
     for words in dict.fromkeys(ours for _, ours, *_ in comparisons):
         counts = count_calls(words, 0, image, "log")
         print_row(" ".join(words[2:]), *([f"{count:g}" for count in counts] if counts else ["strace failed"]))
+
+
+def small_files(count):
+    def add(tree):
+        for number in range(count):
+            folder = f"{tree}/{number // 500}"
+            os.makedirs(folder, exist_ok=True)
+            with open(f"{folder}/{number}", "wb") as file:
+                file.write(bytes([number % 251]) * SMALL)
+
+    return add
+
+
+def measure_growth(what, times_on):
+    """Prints the time for a file on images with more and more small ones, where `times_on(image)` has the milliseconds by name."""
+    print(f"# growth: {what}; the time for a file")
+    print_row("small files", *COUNTS, "80,000 / 5,000", "wanted")
+    times = {}
+    for count in COUNTS:
+        with full_image(small_files(count), 0) as image:
+            for name, time in times_on(image).items():
+                times.setdefault(name, []).append(time / count * 1000)
+    for name, each in times.items():
+        print_row(name, *(f"{time:.3f} us" for time in each), f"{each[-1] / each[0]:.4f}", "at most 1.3")

@@ -13,9 +13,8 @@ import subprocess
 import sys
 
 sys.dont_write_bytecode = True
-from check import COUNTS, small_files
-from comparing import FILES, full_image, peak_memory
-from measuring import PROGRAM, count_calls, mean_start, medians, print_row, start
+from comparing import FILES, full_image, measure_growth, peak_memory
+from measuring import PROGRAM, count_calls, medians, named_medians, print_row, start
 
 LENGTHS = 512, 20_480  # blocks
 SEGMENT = 512
@@ -90,22 +89,13 @@ def compare(image, copy):
         print_row(f"defrag -l {length}", *([f"{count:g}" for count in counts] if counts else ["strace failed"]))
 
 
-def measure_growth():
-    print(f"# growth: medians of {SAMPLES} samples of a start each, on a fresh copy; the time for a file")
-    print_row("small files", *COUNTS, "80,000 / 5,000", "wanted")
-    times = {}
-    for count in COUNTS:
-        with full_image(small_files(count), 0) as image:
-            copy = f"{image}-copy"
-            # these files have no blocks but their inodes
-            begin = first_full(image, ALL)
-            cases = [(words_of(copy, begin, length)[0],) for length in LENGTHS] + [((PROGRAM, copy, "fsck"),)]
-            for (words,), time in medians(cases, sample_of(image, copy), SAMPLES).items():
-                name = "fsck alone" if words[2] == "fsck" else f"defrag -l {words[6]}"
-                times[name, count] = time / count * 1000
-    for name in dict.fromkeys(name for name, _ in times):
-        each = [times[name, count] for count in COUNTS]
-        print_row(name, *(f"{time:.3f} us" for time in each), f"{each[-1] / each[0]:.4f}", "at most 1.3")
+def times_on(image):
+    copy = f"{image}-copy"
+    # small files have no blocks but their inodes
+    begin = first_full(image, ALL)
+    cases = {f"defrag -l {length}": (words_of(copy, begin, length)[0],) for length in LENGTHS}
+    cases["fsck alone"] = ((PROGRAM, copy, "fsck"),)
+    return named_medians(cases, sample_of(image, copy), SAMPLES)
 
 
 def main():
@@ -116,7 +106,7 @@ def main():
     with full_image() as image:
         compare(image, f"{image}-copy")
     print()
-    measure_growth()
+    measure_growth(f"medians of {SAMPLES} samples of a start each, on a fresh copy", times_on)
 
 
 if __name__ == "__main__":

@@ -44,6 +44,12 @@ def medians(cases, sample, count):
     return {case: statistics.median(samples) for case, samples in found.items()}
 
 
+def named_medians(cases, sample, count):
+    """The same of cases with names, by name."""
+    found = medians(list(cases.values()), sample, count)
+    return {name: found[case] for name, case in cases.items()}
+
+
 def start(words, wanted):
     """Starts a program once, and answers the seconds until its end, which has to be with this status."""
     output = (os.POSIX_SPAWN_OPEN, 1, os.devnull, os.O_WRONLY, 0)
