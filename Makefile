@@ -1,9 +1,10 @@
 PREFIX = /usr/local
 PROGRAM = crates/f2_tools/out/f2_tools
 MEASURE = crates/f2_measure/out/f2_measure
+CASES = crates/f2_cases/out/f2_cases
 SOURCES = crates.txt $(shell find crates -name out -prune -o -type f \( -name '*.rt' -o -name '*.antt' \) -print)
 
-.PHONY: build demo test bench install
+.PHONY: build demo test check bench install
 
 build: $(PROGRAM) $(MEASURE)
 
@@ -12,11 +13,18 @@ $(PROGRAM) $(MEASURE): $(SOURCES)
 	cd $(@D)/.. && rt run >/dev/null; [ $$? -eq 16 ]
 	touch $@
 
+$(CASES): $(SOURCES)
+	cd $(@D)/.. && rt run >/dev/null
+	touch $@
+
 demo: build
 	scripts/demo.sh
 
 test:
 	.ci/run
+
+check: build $(CASES)
+	scripts/check.sh
 
 bench: build
 	bench/super_copies.py

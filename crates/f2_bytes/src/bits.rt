@@ -57,35 +57,3 @@ pub fn count_bits(map: &[u8]) -> u32
     }
     count
 }
-
-#[cfg(test)]
-mod tests {
-    use super::*;
-
-    #[test]
-    fn numbers_bits_from_either_end(rt: HostRuntime) {
-        let map = [0x80, 0x03];
-        for (k, msb, lsb) in [
-            (0usize, true, false),
-            (7, false, true),
-            (8, false, true),
-            (14, true, false),
-            (15, true, false),
-        ] {
-            assert!(rt; k < 16);
-            assert_eq!(rt; bit_msb(&map, k), msb, "bit {k}");
-            assert_eq!(rt; bit_lsb(&map, k), lsb, "bit {k}");
-        }
-        assert_eq!(rt; count_bits(&map), 3);
-    }
-
-    #[test]
-    fn sets_and_clears_bits(rt: HostRuntime) {
-        let mut map = [0xFF, 0x00];
-        set_bit_msb(&mut map, 1, false);
-        set_bit_msb(&mut map, 8, true);
-        set_bit_lsb(&mut map, 1, false);
-        set_bit_lsb(&mut map, 8, true);
-        assert_eq!(rt; map, [0xBD, 0x81]);
-    }
-}

@@ -69,28 +69,3 @@ pub fn seal(b: &mut [u8])
     let checksum = crc_of_front(b, 4092);
     put_number(b, 4092, 4, u64::from(checksum));
 }
-
-#[cfg(test)]
-mod tests {
-    use super::*;
-
-    // The check value of CRC-32 is 0xCBF43926 with all ones as its start and inverted at the end.
-    #[test]
-    fn crc_has_the_check_value(rt: HostRuntime) {
-        assert_eq!(rt; crc(0xFFFF_FFFF, b"123456789"), 0x340B_C6D9);
-    }
-
-    #[test]
-    fn seals_a_block(rt: HostRuntime) {
-        let mut block = [0xA5; 4096];
-        assert!(rt; !sealed(&block));
-        seal(&mut block);
-        assert!(rt; sealed(&block));
-        assert_eq!(rt;
-            (block[163], block[164], block[165], block[168]),
-            (0xA5, 0xFC, 0x0F, 0xA5)
-        );
-        block[4000] = 0;
-        assert!(rt; !sealed(&block));
-    }
-}

@@ -8,22 +8,22 @@ use Rattle.f2_bytes.specs.Bytes.{Image, numbers_below}
 use Rattle.f2_bytes.specs.Superblock.{layout, is_main, IsInOrder}
 use Rattle.f2_bytes.specs.Tree.{is_inode}
 use Rattle.f2_bytes.specs.Check.{Defect, defects, nids, is_address, used_slots, slots_with, nodes_with, fails_where, same, where_true, defect_of, part_defects}
-use Rattle.f2_check.specs.Addresses.{outside_defect}
-use Rattle.f2_check.specs.Directories.{DirectoriesAfter, HasHoles, IsGathered}
-use Rattle.f2_check.specs.Kept.{KeptAfter}
-use Rattle.f2_check.specs.OwnerTables.{OwnerTable, slots_at, Breaks, HasOwners, IsOwners}
-use Rattle.f2_check.specs.Parts.{part_in}
-use Rattle.f2_check.specs.Repeats.{repeat_defect}
-use Rattle.f2_check.specs.Slots.{Slot, all_slots}
-use Rattle.f2_check.specs.Totals.{slot_total}
-use Rattle.f2_check.specs.declared.kept.Kept.{Kept}
-use Rattle.f2_check.proofs.DirectoryBlocks.{no_main_block}
-use Rattle.f2_check.proofs.FileSlots.{used_slots-few}
+use Rattle.f2_files.specs.Addresses.{outside_defect}
+use Rattle.f2_items.specs.Directories.{DirectoriesAfter, HasHoles, IsGathered}
+use Rattle.f2_files.specs.Kept.{KeptAfter}
+use Rattle.f2_survey.specs.OwnerTables.{OwnerTable, slots_at, Breaks, HasOwners, IsOwners}
+use Rattle.f2_survey.specs.Parts.{part_in}
+use Rattle.f2_files.specs.Repeats.{repeat_defect}
+use Rattle.f2_survey.specs.Slots.{Slot, all_slots}
+use Rattle.f2_areas.specs.Totals.{slot_total}
+use Rattle.f2_files.specs.declared.kept_of_files.Kept.{Kept}
+use Rattle.f2_files.proofs.DirectoryBlocks.{no_main_block}
+use Rattle.f2_items.proofs.FileSlots.{used_slots-few}
 use Rattle.f2_check.proofs.MetRules.{outside_met, repeats_met}
-use Rattle.f2_check.proofs.NumberLists.{length-numbers}
-use Rattle.f2_check.proofs.OwnerClaims.{main-address}
-use Rattle.f2_check.proofs.RepeatCounts.{address-some}
-use Rattle.f2_check.proofs.SlotCounts.{length-all_slots, slots_at-all, owner_among-all}
+use Rattle.f2_survey.proofs.NumberLists.{length-numbers}
+use Rattle.f2_survey.proofs.OwnerClaims.{main-address}
+use Rattle.f2_files.proofs.RepeatCounts.{address-some}
+use Rattle.f2_files.proofs.SlotCounts.{length-all_slots, slots_at-all, owner_among-all}
 use Rattle.f2_check.proofs.SlotParts.{outside-part, repeats-part}
 
 -- ---- lists of slots

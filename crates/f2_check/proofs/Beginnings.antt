@@ -5,11 +5,11 @@ use Rattle.f2_bytes.specs.Bytes.{Image, numbers_below}
 use Rattle.f2_bytes.specs.declared.layout.Layout.{Layout}
 use Rattle.f2_bytes.specs.SegmentTable.{sit}
 use Rattle.f2_bytes.specs.Check.{nids}
-use Rattle.f2_check.proofs.NumberLists.{length-numbers, get_or-numbers}
-use Rattle.f2_check.specs.Segments.{HasTable}
-use Rattle.f2_check.specs.Tallies.{IsTally}
-use Rattle.f2_check.specs.Usage.{nodes_of, CountsNodes}
-use Rattle.f2_check.specs.declared.tally.Tally.{Tally}
+use Rattle.f2_survey.proofs.NumberLists.{length-numbers, get_or-numbers}
+use Rattle.f2_survey.specs.Segments.{HasTable}
+use Rattle.f2_survey.specs.Tallies.{IsTally}
+use Rattle.f2_files.specs.Usage.{nodes_of, CountsNodes}
+use Rattle.f2_survey.specs.declared.node_counts.Tally.{Tally}
 use Rattle.f2_sum.specs.Records.{sit_entry}
 use Rattle.f2_sum.specs.declared.records.SitEntry.{SitEntry}
 use Rattle.f2_view.specs.Mounted.{Mounted, IsMountOf, layout_in}

@@ -15,7 +15,7 @@ use Rattle.f2_bytes.specs.Superblock.{layout, is_main}
 use Rattle.f2_bytes.specs.Tree.{main_block, read_node, is_inode}
 use Rattle.f2_bytes.specs.Check.{Part, defect_of, defects_at, part_defects, inode_of}
 use Rattle.f2_bytes.specs.Node.{ext_fofs, ext_len}
-use Rattle.f2_check.proofs.PartDefects.{flat_map-more}
+use Rattle.f2_survey.proofs.PartDefects.{flat_map-more}
 use Rattle.f2_disk.specs.Disk.{IsImage}
 
 -- ---- parts

@@ -9,10 +9,10 @@ use Rattle.f2_bytes.specs.Bytes.{Image}
 use Rattle.f2_bytes.specs.Superblock.{IsInOrder}
 use Rattle.f2_check.proofs.FewDefects.{few_defects}
 use Rattle.f2_bytes.specs.Check.{Defect, defects, failing_rule, is_rule_met}
-use Rattle.f2_check.specs.Collected.{Collection, Collects}
-use Rattle.f2_check.specs.Verdicts.{Says, IsVerdict, Lists}
-use Rattle.f2_check.specs.declared.verdict.Verdict.{Verdict}
-use Rattle.f2_check.specs.declared.verdict.Verdict.TheVariants.{Clean, Defects}
+use Rattle.f2_defects.specs.Collected.{Collection, Collects}
+use Rattle.f2_defects.specs.Verdicts.{Says, IsVerdict, Lists}
+use Rattle.f2_defects.specs.declared.verdict.Verdict.{Verdict}
+use Rattle.f2_defects.specs.declared.verdict.Verdict.TheVariants.{Clean, Defects}
 use Rattle.f2_disk.specs.Disk.{IsImage}
 use Rattle.f2_view.proofs.TableReadings.{own_layout}
 use Rattle.f2_view.specs.Mounted.{Mounted, IsKept, IsMountOf}

@@ -4,10 +4,10 @@ use Rattle.std.specs.Prelude.{flat_map}
 use Rattle.std.proofs.lemmas.Bool.{cases_lt}
 use Rattle.f2_bytes.specs.Bytes.{Image, numbers_below}
 use Rattle.f2_bytes.specs.Check.{defects, part_defects}
-use Rattle.f2_check.specs.Parts.{part_in, MeetsBefore, HasPlaces, first_parts}
-use Rattle.f2_check.proofs.GrownLists.{flat_map_push}
-use Rattle.f2_check.proofs.NumberLists.{numbers-suc}
-use Rattle.f2_check.proofs.RuleParts.{node_parts_all, address_parts_all}
+use Rattle.f2_survey.specs.Parts.{part_in, MeetsBefore, HasPlaces, first_parts}
+use Rattle.f2_items.proofs.GrownLists.{flat_map_push}
+use Rattle.f2_survey.proofs.NumberLists.{numbers-suc}
+use Rattle.f2_survey.proofs.RuleParts.{node_parts_all, address_parts_all}
 
 first-none : {A : Type 0} (xs ys : List A) → xs ++ ys ≡ [] → xs ≡ []
 first-none [] ys none = refl

@@ -3,9 +3,9 @@ use Rattle.std.proofs.Common.{◌≡◌, ℕ, zero, suc, ◌+◌, List, [], ◌+
 use Rattle.std.proofs.lemmas.List.{nil_from_length}
 use Rattle.f2_bytes.specs.Bytes.{Image, numbers_below}
 use Rattle.f2_bytes.specs.Check.{Defect, defects, part_defects}
-use Rattle.f2_check.proofs.PartDefects.{first_parts-more}
-use Rattle.f2_check.proofs.RuleParts.{node_parts_all}
-use Rattle.f2_check.specs.Parts.{part_in, first_parts}
+use Rattle.f2_survey.proofs.PartDefects.{first_parts-more}
+use Rattle.f2_survey.proofs.RuleParts.{node_parts_all}
+use Rattle.f2_survey.specs.Parts.{part_in, first_parts}
 
 pub both_none : (a b : List Defect) → a ++ b ≡ [] → (a ≡ []) × (b ≡ [])
 both_none a b none =

@@ -8,11 +8,11 @@ use Rattle.f2_bytes.specs.Node.{most_blocks}
 use Rattle.f2_bytes.specs.Superblock.{layout, is_main}
 use Rattle.f2_bytes.specs.Tree.{is_inode, tree_slot}
 use Rattle.f2_bytes.specs.Check.{Comparison, Defect, nids, is_address, slots_with, nodes_with, same, fails_where, where_true, defect_of, defects_at, part_defects, slot_part, address_parts, spot_of, nid_of_spot}
-use Rattle.f2_check.specs.Addresses.{outside_defect}
-use Rattle.f2_check.specs.Parts.{part_in}
-use Rattle.f2_check.specs.Repeats.{repeat_defect}
-use Rattle.f2_check.specs.Slots.{Slot, slot_at, file_slots, all_slots}
-use Rattle.f2_check.proofs.DirectoryBlocks.{filter_map-filter_map}
+use Rattle.f2_files.specs.Addresses.{outside_defect}
+use Rattle.f2_survey.specs.Parts.{part_in}
+use Rattle.f2_files.specs.Repeats.{repeat_defect}
+use Rattle.f2_survey.specs.Slots.{Slot, slot_at, file_slots, all_slots}
+use Rattle.f2_files.proofs.DirectoryBlocks.{filter_map-filter_map}
 
 -- what is listed of lists that are joined for those that pass
 joined : {X A B : Type 0} (g : A → Option B) (f : X → List A) (p : X → Bool) (xs : List X)

@@ -2,13 +2,13 @@
 use Rattle.std.specs.Prelude.{◌≡◌, ℕ, Option, Some, []}
 use Rattle.f2_bytes.specs.Bytes.{Image}
 use Rattle.f2_bytes.specs.Check.{nids, defects}
-use Rattle.f2_check.specs.Collected.{Collection, Collects}
-use Rattle.f2_check.specs.Kept.{KeptAfter}
-use Rattle.f2_check.specs.Known.{IsKnown}
-use Rattle.f2_check.specs.Parts.{MeetsBefore}
-use Rattle.f2_check.specs.Segments.{HasTable}
-use Rattle.f2_check.specs.Totals.{HasTotals}
-use Rattle.f2_check.specs.declared.beginning.Beginning.{Beginning}
+use Rattle.f2_defects.specs.Collected.{Collection, Collects}
+use Rattle.f2_files.specs.Kept.{KeptAfter}
+use Rattle.f2_survey.specs.Known.{IsKnown}
+use Rattle.f2_survey.specs.Parts.{MeetsBefore}
+use Rattle.f2_survey.specs.Segments.{HasTable}
+use Rattle.f2_areas.specs.Totals.{HasTotals}
+use Rattle.f2_check.specs.declared.rule_3_and_tour.Beginning.{Beginning}
 use Rattle.f2_check.specs.declared.work.Work.{Work}
 use Rattle.f2_view.specs.Mounted.{Mounted, IsMountOf}
 

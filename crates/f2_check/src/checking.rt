@@ -1,21 +1,19 @@
 // The check of an image.
 ghost use Rattle.std.specs.Prelude.{◌≡◌, ◌≤◌, ◌<◌, length, IfOk, IsErrOf, Some};
 ghost use Rattle.f2_bytes.specs.Bytes.{Image};
-ghost use Rattle.f2_check.specs.Verdicts.{IsVerdict};
+ghost use Rattle.f2_defects.specs.Verdicts.{IsVerdict};
 ghost use Rattle.f2_check.specs.Worked.{Decides};
 ghost use Rattle.f2_disk.specs.Disk.{Reads, Goes, Rose};
 ghost use Rattle.f2_view.specs.Mounted.{layout_in, IsMountOf};
 
-use crate::beginning::node_defects;
-use crate::checkpoint::checkpoint_defects;
-use crate::collector::Collector;
-use crate::copies::copy_defects;
-use crate::rules::{
+use crate::later_rules::{
     address_defects, attribute_defects, count_defects, directory_defects, inode_defects,
     link_defects, log_defects, summary_defects, validity_defects,
 };
+use crate::rule_3_and_tour::node_defects;
 use crate::work::Work;
-use crate::{CheckRefusal, Verdict};
+use f2_areas::{checkpoint_defects, copy_defects};
+use f2_defects::{CheckRefusal, Collector, Verdict};
 use f2_disk::Disk;
 use f2_view::Mount;
 use std::alloc::Global;

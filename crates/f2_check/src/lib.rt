@@ -1,59 +1,15 @@
 //! The check of an image: twelve rules, each of which is looked at where the image meets all rules before it.
 //!
-//! `f2_bytes` has the definitions: `specs/Check`.
+//! Begin with `check`. The definition of a checked image stands in f2_bytes, specs/Check. The rules stand in the crates below:
+//! on nodes in f2_survey, on addresses, blocks and extents in f2_files, on directories and names in f2_items, on the other areas
+//! in f2_areas; f2_tour visits the files for them, and f2_defects has the verdict.
 #![tactic(auto)]
 
-mod addresses;
-mod all_names;
-mod ancestors;
-mod beginning;
 mod checking;
-mod checkpoint;
-mod collector;
-mod copies;
-mod counts;
-mod directories;
-mod directory_rule;
-mod extents;
-mod files;
-mod giving;
-mod in_block;
-mod item_rules;
-mod kept;
-mod known;
-mod links;
-mod logs;
-mod loops;
-mod name_places;
-mod names;
-mod node_defects;
-mod nodes;
-mod open_directory;
-mod owners;
-mod reach;
-mod refusal;
-mod repeated;
-mod repeats;
-mod rows;
-mod rules;
-mod said;
-mod seen;
-mod segments;
-mod slots;
-mod summaries;
-mod survey;
-mod tallies;
-mod tally;
-mod times;
-mod tour;
-mod usage;
-mod validity;
-mod verdict;
-mod visited;
-mod whole_rules;
+mod later_rules;
+mod rule_3_and_tour;
+mod rule_4_repeats;
 mod work;
 
 pub use checking::{check, check_body};
-pub use collector::Defect;
-pub use refusal::CheckRefusal;
-pub use verdict::Verdict;
+pub use f2_defects::{CheckRefusal, Defect, Verdict};

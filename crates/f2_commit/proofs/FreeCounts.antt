@@ -11,7 +11,7 @@ use Rattle.f2_bytes.specs.Check.{digit}
 use Rattle.f2_bytes.specs.Defragment.{is_among}
 use Rattle.f2_bytes.proofs.Below.{found_below, some_below}
 use Rattle.f2_bytes.proofs.Counts.{sum_below-suc, counted}
-use Rattle.f2_commit.proofs.NumbersBelow.{numbers-none}
+use Rattle.f2_free.proofs.NumbersBelow.{numbers-none}
 
 count_zero : (f : ℕ → Bool) → count_below 0 f ≡ 0
 count_zero f = ap (count_by f) numbers-none

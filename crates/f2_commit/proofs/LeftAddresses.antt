@@ -6,11 +6,11 @@ use Rattle.f2_bytes.specs.declared.layout.Layout.{Layout}
 use Rattle.f2_bytes.specs.Defragment.{is_among}
 use Rattle.f2_bytes.specs.Superblock.{is_main}
 use Rattle.f2_sum.specs.declared.records.NatEntry.{NatEntry as HeldNatEntry}
-use Rattle.f2_commit.specs.declared.gathering.MovedBlock.{MovedBlock}
-use Rattle.f2_commit.specs.Gathering.{addresses_of, AllMain}
+use Rattle.f2_gather.specs.declared.gathering.MovedBlock.{MovedBlock}
+use Rattle.f2_gather.specs.Gathering.{addresses_of, AllMain}
 use Rattle.f2_commit.specs.Shifting.{node_addresses}
-use Rattle.f2_commit.proofs.Ascending.{All-among, among_from}
-use Rattle.f2_commit.proofs.GatheredSteps.{maps}
+use Rattle.f2_gather.proofs.Ascending.{All-among, among_from}
+use Rattle.f2_gather.proofs.GatheredSteps.{maps}
 
 -- one element more of a map behind a list
 pub appends : {X Y : Type 0} (f : X → Y) (start : List Y) (xs : List X) (i : ℕ) (d : X) → i < length xs → (ys : List Y) → ys ≡ start ++ map f (take i xs) → ys ++ f (get_or xs i d) ∷ [] ≡ start ++ map f (take (i + 1) xs)

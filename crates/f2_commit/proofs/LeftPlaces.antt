@@ -18,7 +18,7 @@ use Rattle.f2_bytes.proofs.CheckedBlocks.{used_is_marked}
 use Rattle.f2_bytes.proofs.FormatFacts.{free_has_no_support}
 use Rattle.f2_bytes.proofs.FrameBlocks.{main_at}
 use Rattle.f2_commit.specs.Moves.{AreTargets, moved_data, moved_nodes, data_target_count, node_targets, new_address, is_moving}
-use Rattle.f2_commit.proofs.Ascending.{bools_same, any-map}
+use Rattle.f2_gather.proofs.Ascending.{bools_same, any-map}
 use Rattle.f2_commit.proofs.MoveAddresses.{nid_with-entry, used_support, data_used, entry_used}
 use Rattle.f2_commit.proofs.MoveBlocks.{to_data}
 use Rattle.f2_commit.proofs.MoveLands.{Goes, goes, takes_low, target_unused}

@@ -21,8 +21,8 @@ use Rattle.f2_sum.specs.Records.{sit_entry}
 use Rattle.f2_sum.specs.declared.records.SitEntry.{SitEntry as HeldSitEntry}
 use Rattle.f2_view.specs.Mounted.{Mounted, layout_in, IsMountOf}
 use Rattle.f2_commit.specs.Shifting.{IsEmptied, AreEmptied, is_freed, IsTaken}
-use Rattle.f2_commit.proofs.Ascending.{bools_same}
-use Rattle.f2_commit.proofs.GatheredSteps.{layout_is}
+use Rattle.f2_gather.proofs.Ascending.{bools_same}
+use Rattle.f2_gather.proofs.GatheredSteps.{layout_is}
 
 -- the numbers of segments with entries
 abbrev pub numbers_of : List (ℕ × HeldSitEntry) → List ℕ

@@ -8,8 +8,8 @@ use Rattle.f2_bytes.specs.Moved.{IsMoved}
 use Rattle.f2_bytes.specs.Tree.{tree}
 use Rattle.f2_bytes.proofs.MovedLaw.{moved_keeps_tree}
 use Rattle.f2_pack.specs.declared.writing.NewPack.{NewPack}
-use Rattle.f2_commit.specs.declared.change.Change.{Change}
-use Rattle.f2_commit.specs.Carried.{Carries}
+use Rattle.f2_change.specs.declared.change.Change.{Change}
+use Rattle.f2_change.specs.Carried.{Carries}
 use Rattle.f2_commit.specs.Moves.{MovesBatch, AreTargets, new_address}
 use Rattle.f2_commit.proofs.MoveBlocks.{files-moved}
 use Rattle.f2_commit.proofs.MoveBodies.{nodes-moved}

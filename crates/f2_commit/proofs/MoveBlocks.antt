@@ -13,9 +13,9 @@ use Rattle.f2_bytes.specs.Defragment.{put_at}
 use Rattle.f2_bytes.proofs.CheckedUsed.{entry_node, slot_main, slot_data}
 use Rattle.f2_bytes.proofs.MovedSlots.{tree_slot-past}
 use Rattle.f2_pack.specs.declared.writing.NewPack.{NewPack}
-use Rattle.f2_commit.specs.declared.change.Change.{Change}
-use Rattle.f2_commit.specs.Change.{given}
-use Rattle.f2_commit.specs.Carried.{Carries}
+use Rattle.f2_change.specs.declared.change.Change.{Change}
+use Rattle.f2_change.specs.Change.{given}
+use Rattle.f2_change.specs.Carried.{Carries}
 use Rattle.f2_commit.specs.Moves.{MovesBatch, AreTargets, moved_data, moved_nodes, node_targets, new_address, is_taken}
 use Rattle.f2_commit.proofs.MoveAddresses.{nid_with-entry, used_support, data_no_node}
 use Rattle.f2_commit.proofs.MoveLands.{lands-moved}

@@ -10,8 +10,8 @@ use Rattle.f2_bytes.specs.Moved.{IsMovedNode}
 use Rattle.f2_bytes.specs.Defragment.{is_among, put_at}
 use Rattle.f2_bytes.proofs.CheckedUsed.{entry_in_main}
 use Rattle.f2_pack.specs.declared.writing.NewPack.{NewPack}
-use Rattle.f2_commit.specs.declared.change.Change.{Change}
-use Rattle.f2_commit.specs.Carried.{Carries}
+use Rattle.f2_change.specs.declared.change.Change.{Change}
+use Rattle.f2_change.specs.Carried.{Carries}
 use Rattle.f2_commit.specs.Moves.{MovesBatch, AreTargets, moved_nodes, node_targets, new_address}
 use Rattle.f2_commit.proofs.MoveAddresses.{entry_used}
 use Rattle.f2_commit.proofs.MoveAmong.{put_there_some}

@@ -13,8 +13,8 @@ use Rattle.f2_bytes.specs.SegmentTable.{sit, has_valid_block}
 use Rattle.f2_bytes.proofs.SameParts.{count_same}
 use Rattle.f2_bytes.proofs.Terms.{counted_some}
 use Rattle.f2_pack.specs.declared.writing.NewPack.{NewPack}
-use Rattle.f2_commit.specs.declared.change.Change.{Change}
-use Rattle.f2_commit.specs.Carried.{Carries}
+use Rattle.f2_change.specs.declared.change.Change.{Change}
+use Rattle.f2_change.specs.Carried.{Carries}
 use Rattle.f2_commit.specs.Moves.{MovesBatch, sit_after}
 
 none_counted : (n : ℕ) → count_below n (λ _. false) ≡ 0

@@ -9,8 +9,8 @@ use Rattle.f2_bytes.specs.Check.{is_checked}
 use Rattle.f2_bytes.specs.Defragment.{Placement, placement, moved_batch}
 use Rattle.f2_bytes.proofs.CheckedUsed.{main_range}
 use Rattle.f2_pack.specs.declared.writing.NewPack.{NewPack}
-use Rattle.f2_commit.specs.declared.change.Change.{Change}
-use Rattle.f2_commit.specs.Carried.{Carries}
+use Rattle.f2_change.specs.declared.change.Change.{Change}
+use Rattle.f2_change.specs.Carried.{Carries}
 use Rattle.f2_commit.specs.Moves.{MovesBatch, AreTargets, AreSamePlaces, HasMoved}
 use Rattle.f2_commit.proofs.MoveBatch.{moves_batch, batch_keeps_tree}
 use Rattle.f2_commit.proofs.MoveFree.{rest_free}

@@ -22,8 +22,8 @@ use Rattle.f2_bytes.proofs.MovedReads.{ReadsMoved}
 use Rattle.f2_bytes.proofs.MovedSlots.{reads_moved}
 use Rattle.f2_bytes.proofs.MovedSummaries.{same_logs}
 use Rattle.f2_pack.specs.declared.writing.NewPack.{NewPack}
-use Rattle.f2_commit.specs.declared.change.Change.{Change}
-use Rattle.f2_commit.specs.Carried.{Carries}
+use Rattle.f2_change.specs.declared.change.Change.{Change}
+use Rattle.f2_change.specs.Carried.{Carries}
 use Rattle.f2_commit.specs.Moves.{MovesBatch, AreTargets, moved_data, moved_nodes, data_target_count, node_targets, new_address, is_taken}
 use Rattle.f2_commit.proofs.MoveAddresses.{used_support}
 use Rattle.f2_commit.proofs.MoveBatch.{moves_batch}

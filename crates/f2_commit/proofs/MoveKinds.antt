@@ -14,8 +14,8 @@ use Rattle.f2_bytes.proofs.CheckedNodes.{no_part}
 use Rattle.f2_bytes.proofs.CheckedUsed.{node_entry, entry_in_main}
 use Rattle.f2_bytes.proofs.SlotSupport.{body_checked}
 use Rattle.f2_pack.specs.declared.writing.NewPack.{NewPack}
-use Rattle.f2_commit.specs.declared.change.Change.{Change}
-use Rattle.f2_commit.specs.Carried.{Carries}
+use Rattle.f2_change.specs.declared.change.Change.{Change}
+use Rattle.f2_change.specs.Carried.{Carries}
 use Rattle.f2_commit.specs.Moves.{MovesBatch, AreTargets, data_target_count, node_targets, new_address, sit_after}
 use Rattle.f2_commit.proofs.MoveAddresses.{used_support, data_used, data_no_node}
 use Rattle.f2_commit.proofs.MoveCheckpoint.{sit-moved}

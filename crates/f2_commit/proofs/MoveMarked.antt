@@ -28,8 +28,8 @@ use Rattle.f2_bytes.proofs.Finds.{none_passes}
 use Rattle.f2_bytes.proofs.SlotSupport.{body_checked}
 use Rattle.f2_bytes.proofs.Terms.{true_from_digit}
 use Rattle.f2_pack.specs.declared.writing.NewPack.{NewPack}
-use Rattle.f2_commit.specs.declared.change.Change.{Change}
-use Rattle.f2_commit.specs.Carried.{Carries}
+use Rattle.f2_change.specs.declared.change.Change.{Change}
+use Rattle.f2_change.specs.Carried.{Carries}
 use Rattle.f2_commit.specs.Moves.{MovesBatch, AreTargets, moved_data, moved_nodes, node_targets, new_address, is_moving}
 use Rattle.f2_commit.proofs.MoveAddresses.{nid_with-entry, data_used, data_no_node, entry_used}
 use Rattle.f2_commit.proofs.MoveBlocks.{to_data}

@@ -22,8 +22,8 @@ use Rattle.f2_bytes.proofs.FormatFacts.{free_has_no_support}
 use Rattle.f2_bytes.proofs.PackReads.{pack_valid, log_segment_low}
 use Rattle.f2_bytes.proofs.SlotSupport.{body_checked}
 use Rattle.f2_pack.specs.declared.writing.NewPack.{NewPack}
-use Rattle.f2_commit.specs.declared.change.Change.{Change}
-use Rattle.f2_commit.specs.Carried.{Carries}
+use Rattle.f2_change.specs.declared.change.Change.{Change}
+use Rattle.f2_change.specs.Carried.{Carries}
 use Rattle.f2_commit.specs.Moves.{MovesBatch, AreTargets, moved_data, moved_nodes, data_target_count, node_targets, new_address, is_moving, is_taken, sit_after}
 use Rattle.f2_commit.proofs.MoveAddresses.{nid_with-entry, used_support, data_no_node}
 use Rattle.f2_commit.proofs.MoveCheckpoint.{sit-moved}

@@ -24,9 +24,9 @@ use Rattle.f2_bytes.proofs.FrameBlocks.{main_at}
 use Rattle.f2_bytes.proofs.MovedOwners.{slot_with-inode}
 use Rattle.f2_bytes.proofs.SlotSupport.{body_checked}
 use Rattle.f2_pack.specs.declared.writing.NewPack.{NewPack}
-use Rattle.f2_commit.specs.declared.change.Change.{Change}
-use Rattle.f2_commit.specs.Carried.{Carries}
-use Rattle.f2_commit.specs.Change.{given}
+use Rattle.f2_change.specs.declared.change.Change.{Change}
+use Rattle.f2_change.specs.Carried.{Carries}
+use Rattle.f2_change.specs.Change.{given}
 use Rattle.f2_commit.specs.Moves.{MovesBatch, AreTargets, moved_data, moved_nodes, node_targets, new_address, is_moving, is_taken, sit_after}
 use Rattle.f2_commit.proofs.MoveAddresses.{used_support, data_no_node}
 use Rattle.f2_commit.proofs.MoveAmong.{find_passes}

@@ -17,9 +17,9 @@ use Rattle.f2_bytes.proofs.AllPlaces.{find_all}
 use Rattle.f2_bytes.proofs.CheckedBlocks.{segment_below}
 use Rattle.f2_pack.specs.declared.checkpoint.Log.{Log}
 use Rattle.f2_pack.specs.declared.writing.NewPack.{NewPack}
-use Rattle.f2_commit.specs.declared.change.Change.{Change}
-use Rattle.f2_commit.specs.Carried.{Carries}
-use Rattle.f2_commit.specs.Change.{given, log_at, is_filled, summary_from, next_summary}
+use Rattle.f2_change.specs.declared.change.Change.{Change}
+use Rattle.f2_change.specs.Carried.{Carries}
+use Rattle.f2_change.specs.Change.{given, log_at, is_filled, summary_from, next_summary}
 use Rattle.f2_commit.specs.Moves.{MovesBatch, AreTargets, moved_data, moved_nodes, data_target_count, node_targets, node_summary}
 use Rattle.f2_commit.proofs.MoveAmong.{find_nothing, find_passes}
 use Rattle.f2_commit.proofs.MoveCheckpoint.{logs-moved}

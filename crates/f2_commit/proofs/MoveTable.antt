@@ -15,8 +15,8 @@ use Rattle.f2_bytes.proofs.CheckedNodes.{nat-range, entry_nid}
 use Rattle.f2_bytes.proofs.CheckedUsed.{main_range, entry_node, entry_in_main}
 use Rattle.f2_bytes.proofs.SlotSupport.{body_checked}
 use Rattle.f2_pack.specs.declared.writing.NewPack.{NewPack}
-use Rattle.f2_commit.specs.declared.change.Change.{Change}
-use Rattle.f2_commit.specs.Carried.{Carries}
+use Rattle.f2_change.specs.declared.change.Change.{Change}
+use Rattle.f2_change.specs.Carried.{Carries}
 use Rattle.f2_commit.specs.Moves.{MovesBatch, AreTargets, moved_nodes, new_address}
 use Rattle.f2_commit.proofs.MoveAddresses.{nid_with-entry, data_used, data_no_node, entry_used}
 use Rattle.f2_commit.proofs.MoveLands.{Takes, Goes, goes, lands-moved}

@@ -12,11 +12,11 @@ use Rattle.f2_bytes.proofs.Numbers.{number_at-drop, number_at-byte}
 use Rattle.f2_sum.specs.Records.{nat_entry}
 use Rattle.f2_sum.specs.declared.records.NatEntry.{NatEntry as HeldNatEntry}
 use Rattle.f2_view.specs.Mounted.{Mounted, layout_in, IsMountOf}
-use Rattle.f2_commit.specs.Change.{summary_end}
+use Rattle.f2_change.specs.Change.{summary_end}
 use Rattle.f2_commit.specs.Moves.{node_summary}
 use Rattle.f2_commit.specs.Shifting.{IsShifted, AreShifted, HavePlaces, node_addresses, HasSums, AreSums}
-use Rattle.f2_commit.proofs.GatheredSteps.{layout_is}
-use Rattle.f2_commit.proofs.NumbersBelow.{map-none, map-more}
+use Rattle.f2_gather.proofs.GatheredSteps.{layout_is}
+use Rattle.f2_free.proofs.NumbersBelow.{map-none, map-more}
 
 -- ---- lists that grow by one
 

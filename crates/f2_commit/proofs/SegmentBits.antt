@@ -3,8 +3,8 @@ use Rattle.std.proofs.Common.{◌≡◌, ◌≢◌, ℕ, ◌+◌, ◌-◌, ◌/�
 use Rattle.std.proofs.lemmas.Bool.{lt-ltb, ltb-true, cases_eq, false_from_ne_true}
 use Rattle.f2_bytes.specs.Bits.{bit_msb, ChangesBit}
 use Rattle.f2_bytes.specs.Bytes.{has_bit}
-use Rattle.f2_commit.proofs.Ascending.{bools_same}
-use Rattle.f2_commit.proofs.LogBlocks.{zeros_at}
+use Rattle.f2_gather.proofs.Ascending.{bools_same}
+use Rattle.f2_change.proofs.LogBlocks.{zeros_at}
 
 zero_over : (d : ℕ) → 0 / d ≡ 0
 zero_over d = omega arith

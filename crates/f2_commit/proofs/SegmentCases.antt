@@ -11,10 +11,10 @@ use Rattle.f2_bytes.specs.Bytes.{numbers_below, quotient_up}
 use Rattle.f2_bytes.specs.Defragment.{is_among, target_block}
 use Rattle.f2_bytes.specs.Superblock.{segment_of, place_of, segment_start}
 use Rattle.f2_bytes.proofs.Below.{found_below, some_below}
-use Rattle.f2_commit.specs.Change.{given}
-use Rattle.f2_commit.proofs.Ascending.{bools_same}
+use Rattle.f2_change.specs.Change.{given}
+use Rattle.f2_gather.proofs.Ascending.{bools_same}
 use Rattle.f2_commit.proofs.FreeCounts.{AreDifferent}
-use Rattle.f2_commit.proofs.Lookups.{given-none, given-first, step}
+use Rattle.f2_change.proofs.Lookups.{given-none, given-first, step}
 use Rattle.f2_commit.proofs.MoveTargets.{segment_at, place_at}
 
 -- ---- what a list gives

@@ -13,8 +13,8 @@ use Rattle.f2_bytes.specs.Superblock.{layout, is_main}
 use Rattle.f2_sum.specs.Records.{nat_entry}
 use Rattle.f2_sum.specs.declared.records.NatEntry.{NatEntry as HeldNatEntry}
 use Rattle.f2_sum.specs.declared.records.SitEntry.{SitEntry as HeldSitEntry}
-use Rattle.f2_commit.specs.declared.gathering.MovedBlock.{MovedBlock}
-use Rattle.f2_commit.specs.Gathering.{addresses_of}
+use Rattle.f2_gather.specs.declared.gathering.MovedBlock.{MovedBlock}
+use Rattle.f2_gather.specs.Gathering.{addresses_of}
 use Rattle.f2_commit.specs.Moves.{moved_data, moved_nodes}
 use Rattle.f2_commit.specs.Shifting.{AreEmptied, AreTaken, node_addresses}
 use Rattle.f2_commit.proofs.LeftPlaces.{node_places}

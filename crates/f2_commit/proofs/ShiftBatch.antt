@@ -17,10 +17,10 @@ use Rattle.f2_bytes.specs.Support.{is_free}
 use Rattle.f2_bytes.specs.Defragment.{target_block}
 use Rattle.f2_bytes.proofs.CheckedUsed.{entry_in_main}
 use Rattle.f2_sum.specs.declared.records.NatEntry.{NatEntry as HeldNatEntry}
-use Rattle.f2_commit.specs.declared.change.Change.{Change}
-use Rattle.f2_commit.specs.declared.gathering.MovedBlock.{MovedBlock}
-use Rattle.f2_commit.specs.Change.{given}
-use Rattle.f2_commit.specs.Gathering.{moved_block}
+use Rattle.f2_change.specs.declared.change.Change.{Change}
+use Rattle.f2_gather.specs.declared.gathering.MovedBlock.{MovedBlock}
+use Rattle.f2_change.specs.Change.{given}
+use Rattle.f2_gather.specs.Gathering.{moved_block}
 use Rattle.f2_commit.specs.Moves.{MovesBatch, AreTargets, moved_data, moved_nodes, data_target_count, node_target_count, node_targets, data_place, node_place, new_address, is_moving, is_taken, sit_after, node_summary}
 use Rattle.f2_commit.specs.Shifting.{IsBatch, HasParts, IsShifted, AreShifted, HavePlaces, AreSums, data_summary, data_blocks, node_addresses}
 use Rattle.f2_commit.proofs.MoveLayout.{main_inside}

@@ -23,13 +23,13 @@ use Rattle.f2_bytes.proofs.CheckedNodes.{no_part}
 use Rattle.f2_bytes.proofs.SlotSupport.{body_checked}
 use Rattle.f2_sum.specs.Records.{sit_entry}
 use Rattle.f2_sum.specs.declared.records.SitEntry.{SitEntry as HeldSitEntry}
-use Rattle.f2_commit.specs.declared.change.Change.{Change}
+use Rattle.f2_change.specs.declared.change.Change.{Change}
 use Rattle.f2_commit.specs.Moves.{AreTargets, moved_data, moved_nodes, data_target_count, node_target_count, node_targets, sit_after}
 use Rattle.f2_commit.specs.Shifting.{IsEmptied, is_freed}
 use Rattle.f2_commit.proofs.FreeCounts.{AreDifferent, counts_balance, zero_count, members_counted, count_all, count_firsts}
 use Rattle.f2_commit.proofs.LeftPlaces.{left_used, used_valid, free_no_valid}
 use Rattle.f2_commit.proofs.MoveSums.{free_inside, free_no_log}
-use Rattle.f2_commit.proofs.NumbersBelow.{any-same}
+use Rattle.f2_free.proofs.NumbersBelow.{any-same}
 use Rattle.f2_commit.proofs.SegmentCases.{among_there, first_at, first_there, different-take}
 use Rattle.f2_commit.proofs.ShiftSegments.{GivesSegments, DataSegment, NodeSegment, OldSegment, LeftSegment, KeptSegment, segment_is, data_free, node_free, old_entry}
 

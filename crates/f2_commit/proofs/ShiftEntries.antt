@@ -14,7 +14,7 @@ use Rattle.f2_bytes.specs.Moved.{moved_entry}
 use Rattle.f2_bytes.specs.Defragment.{is_among, target_block}
 use Rattle.f2_sum.specs.Records.{nat_entry}
 use Rattle.f2_sum.specs.declared.records.NatEntry.{NatEntry as HeldNatEntry}
-use Rattle.f2_commit.specs.Change.{nat_given}
+use Rattle.f2_change.specs.Change.{nat_given}
 use Rattle.f2_commit.specs.Moves.{moved_nodes, node_targets, new_address}
 use Rattle.f2_commit.specs.Shifting.{HavePlaces}
 use Rattle.f2_commit.proofs.MoveMarked.{put_there, nodes_rise, found_node, to_node, node_no_data}

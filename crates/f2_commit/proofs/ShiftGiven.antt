@@ -8,8 +8,8 @@ use Rattle.std.proofs.lemmas.List.FromFn.{get_or-map-range_with_len, length-map-
 use Rattle.std.proofs.lemmas.List.Folds.{Any-from_list_any}
 use Rattle.f2_bytes.specs.Bytes.{numbers_below}
 use Rattle.f2_bytes.specs.Defragment.{is_among}
-use Rattle.f2_commit.specs.Change.{given}
-use Rattle.f2_commit.proofs.Lookups.{given-append, given-first, given-absent}
+use Rattle.f2_change.specs.Change.{given}
+use Rattle.f2_change.proofs.Lookups.{given-append, given-first, given-absent}
 
 -- the numbers that a list names, in order
 abbrev pub keys : {T : Type 0} → List (ℕ × T) → List ℕ

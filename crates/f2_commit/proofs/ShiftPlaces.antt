@@ -7,7 +7,7 @@ use Rattle.std.proofs.lemmas.List.{length-map}
 use Rattle.f2_bytes.specs.declared.layout.Layout.{Layout}
 use Rattle.f2_bytes.specs.Bytes.{Block, numbers_below, quotient_up}
 use Rattle.f2_bytes.specs.Defragment.{target_block}
-use Rattle.f2_commit.specs.Change.{given}
+use Rattle.f2_change.specs.Change.{given}
 use Rattle.f2_commit.proofs.MoveTargets.{behind, same_number, enough_room}
 use Rattle.f2_commit.proofs.ShiftGiven.{keys, length-mapped, get_or-mapped, any-mapped, given_not, given_never, given_only, given_before, given_behind}
 

@@ -12,9 +12,9 @@ use Rattle.f2_bytes.specs.Defragment.{placement, batch_need, target_block}
 use Rattle.f2_bytes.proofs.AllPlaces.{All-below}
 use Rattle.f2_pack.specs.declared.writing.NewPack.{NewPack}
 use Rattle.f2_sum.specs.declared.records.NatEntry.{NatEntry as HeldNatEntry}
-use Rattle.f2_commit.specs.declared.change.Change.{Change}
-use Rattle.f2_commit.specs.declared.gathering.MovedBlock.{MovedBlock}
-use Rattle.f2_commit.specs.Carried.{Carries}
+use Rattle.f2_change.specs.declared.change.Change.{Change}
+use Rattle.f2_gather.specs.declared.gathering.MovedBlock.{MovedBlock}
+use Rattle.f2_change.specs.Carried.{Carries}
 use Rattle.f2_commit.specs.Moves.{AreTargets, moved_data, moved_nodes, data_target_count, node_targets, HasMoved}
 use Rattle.f2_commit.specs.Shifting.{IsBatch, HasParts}
 use Rattle.f2_commit.proofs.MoveDone.{batch_moves}

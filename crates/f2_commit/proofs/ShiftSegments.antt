@@ -20,13 +20,13 @@ use Rattle.f2_bytes.proofs.CheckedNodes.{no_part}
 use Rattle.f2_bytes.proofs.SlotSupport.{body_checked}
 use Rattle.f2_sum.specs.Records.{sit_entry}
 use Rattle.f2_sum.specs.declared.records.SitEntry.{SitEntry as HeldSitEntry}
-use Rattle.f2_commit.specs.declared.change.Change.{Change}
-use Rattle.f2_commit.specs.Change.{given}
+use Rattle.f2_change.specs.declared.change.Change.{Change}
+use Rattle.f2_change.specs.Change.{given}
 use Rattle.f2_commit.specs.Moves.{AreTargets, moved_data, moved_nodes, data_target_count, node_target_count, node_targets, is_moving, is_taken, sit_after}
 use Rattle.f2_commit.specs.Shifting.{IsEmptied, AreEmptied, IsTaken, AreTaken}
 use Rattle.f2_commit.proofs.LeftPlaces.{node_places, moving_is, free_unmarked}
-use Rattle.f2_commit.proofs.Lookups.{given-append}
-use Rattle.f2_commit.proofs.NumbersBelow.{or_false}
+use Rattle.f2_change.proofs.Lookups.{given-append}
+use Rattle.f2_free.proofs.NumbersBelow.{or_false}
 use Rattle.f2_commit.proofs.SegmentCases.{LastFor, NoneFor, given_last, among_at, first_at, first_there, different-drop, places_taken, places_untaken}
 
 -- The entries that a change gives segments: those that the batch leaves, and those that take its data and its nodes.

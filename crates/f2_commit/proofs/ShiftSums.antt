@@ -5,7 +5,7 @@ use Rattle.std.proofs.lemmas.List.{map-append, length-map, length-take-le, lengt
 use Rattle.std.proofs.lemmas.List.Elements.{All-append, All-from_get_or}
 use Rattle.f2_bytes.specs.Bytes.{Block, quotient_up}
 use Rattle.f2_bytes.specs.Summary.{Summary}
-use Rattle.f2_commit.specs.Change.{given}
+use Rattle.f2_change.specs.Change.{given}
 use Rattle.f2_commit.specs.Shifting.{HasSums, AreSums}
 use Rattle.f2_commit.proofs.ShiftGiven.{keys, given_never, given_only, given_before, given_behind}
 

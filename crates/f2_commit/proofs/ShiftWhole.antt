@@ -24,14 +24,14 @@ use Rattle.f2_pack.specs.Logs.{log_of}
 use Rattle.f2_sum.specs.declared.records.NatEntry.{NatEntry as HeldNatEntry}
 use Rattle.f2_view.specs.Mounted.{Mounted, IsKept, IsMountOf, layout_in}
 use Rattle.f2_view.proofs.TableReadings.{own_layout, own_head}
-use Rattle.f2_commit.specs.declared.change.Change.{Change}
-use Rattle.f2_commit.specs.declared.gathering.MovedBlock.{MovedBlock}
-use Rattle.f2_commit.specs.Carried.{Carries}
-use Rattle.f2_commit.specs.Change.{log_at}
-use Rattle.f2_commit.specs.Gathering.{addresses_of}
+use Rattle.f2_change.specs.declared.change.Change.{Change}
+use Rattle.f2_gather.specs.declared.gathering.MovedBlock.{MovedBlock}
+use Rattle.f2_change.specs.Carried.{Carries}
+use Rattle.f2_change.specs.Change.{log_at}
+use Rattle.f2_gather.specs.Gathering.{addresses_of}
 use Rattle.f2_commit.specs.Moves.{AreTargets, HasMoved, HasSameFiles, moved_data, moved_nodes}
 use Rattle.f2_commit.specs.Shifting.{IsBatch, HasParts, AreTaken, AreSums}
-use Rattle.f2_commit.specs.Writes.{Prepared, OldOrNew, committed}
+use Rattle.f2_change.specs.Writes.{Prepared, OldOrNew, committed}
 use Rattle.f2_commit.proofs.SegmentsGiven.{gives_from, nodes_in_main}
 use Rattle.f2_commit.proofs.ShiftBatch.{SegmentFields, nodes_long}
 use Rattle.f2_commit.proofs.ShiftCounts.{checked_free, free_segments-shifted}

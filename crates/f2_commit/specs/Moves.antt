@@ -14,8 +14,8 @@ use Rattle.f2_bytes.specs.Summary.{Summary, summary, summary_entry, entry_type}
 use Rattle.f2_bytes.specs.Superblock.{layout, segment_start}
 use Rattle.f2_bytes.specs.Support.{is_free}
 use Rattle.f2_pack.specs.Logs.{log_of}
-use Rattle.f2_commit.specs.declared.change.Change.{Change}
-use Rattle.f2_commit.specs.Change.{given, nat_given, sit_given, log_at}
+use Rattle.f2_change.specs.declared.change.Change.{Change}
+use Rattle.f2_change.specs.Change.{given, nat_given, sit_given, log_at}
 use Rattle.f2_bytes.specs.Tree.{tree}
 use Rattle.f2_bytes.specs.Moved.{IsMovedNode, IsMoved, moved_entry}
 

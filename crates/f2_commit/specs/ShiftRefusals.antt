@@ -3,8 +3,8 @@ use Rattle.f2_tables.specs.declared.refusal.TableRefusal.{TableRefusal}
 use Rattle.f2_tables.specs.declared.refusal.TableRefusal.TheVariants as table
 use Rattle.f2_view.specs.declared.readings.ViewRefusal.{ViewRefusal}
 use Rattle.f2_view.specs.declared.readings.ViewRefusal.TheVariants as view
-use Rattle.f2_commit.specs.declared.change.PrepareRefusal.{PrepareRefusal}
-use Rattle.f2_commit.specs.declared.change.PrepareRefusal.TheVariants as prepare
+use Rattle.f2_change.specs.declared.change.PrepareRefusal.{PrepareRefusal}
+use Rattle.f2_change.specs.declared.change.PrepareRefusal.TheVariants as prepare
 use Rattle.f2_commit.specs.declared.shift_refusal.ShiftRefusal.{ShiftRefusal}
 use Rattle.f2_commit.specs.declared.shift_refusal.ShiftRefusal.TheVariants.{DiskFault, NoMemory}
 

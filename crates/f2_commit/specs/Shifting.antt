@@ -17,10 +17,10 @@ use Rattle.f2_pack.specs.Logs.{log_of}
 use Rattle.f2_sum.specs.Records.{nat_entry, sit_entry}
 use Rattle.f2_sum.specs.declared.records.NatEntry.{NatEntry as HeldNatEntry}
 use Rattle.f2_sum.specs.declared.records.SitEntry.{SitEntry as HeldSitEntry}
-use Rattle.f2_commit.specs.declared.change.Change.{Change}
-use Rattle.f2_commit.specs.declared.gathering.MovedBlock.{MovedBlock}
-use Rattle.f2_commit.specs.Change.{log_at}
-use Rattle.f2_commit.specs.Gathering.{addresses_of, moved_block}
+use Rattle.f2_change.specs.declared.change.Change.{Change}
+use Rattle.f2_gather.specs.declared.gathering.MovedBlock.{MovedBlock}
+use Rattle.f2_change.specs.Change.{log_at}
+use Rattle.f2_gather.specs.Gathering.{addresses_of, moved_block}
 use Rattle.f2_commit.specs.Moves.{moved_data, moved_nodes, node_summary, least_free_nid}
 
 -- ---- the blocks

@@ -6,14 +6,13 @@ ghost use Rattle.f2_bytes.specs.Bytes.{word as word_of};
 ghost use Rattle.f2_bytes.specs.Defragment.{target_block as block_of_targets, is_covered, regular_extent};
 ghost use Rattle.f2_bytes.specs.Node.{node_offset, address_count, has_slots as names_blocks, is_direct as is_direct_offset};
 ghost use Rattle.f2_bytes.specs.Superblock.{IsInOrder, is_main};
-ghost use Rattle.f2_commit.specs.Gathering.{addresses_of};
+ghost use Rattle.f2_gather.specs.Gathering.{addresses_of};
 ghost use Rattle.f2_commit.specs.Shifting.{placed_data, IsShifted};
 
-use crate::coverings::covers;
-use crate::gathering::MovedBlock;
-use crate::slots::is_direct;
 use f2_bytes::Layout;
 use f2_disk::Block;
+use f2_free::is_direct;
+use f2_gather::{MovedBlock, covers};
 use f2_node::{addresses, footer, has_slots, set_word, word};
 
 // The number of the first address word of an inode, of the first of its extent's three, and how many words of another node

@@ -12,8 +12,8 @@ ghost use Rattle.f2_view.specs.Mounted.{layout_in, IsMountOf};
 ghost use Rattle.f2_commit.specs.Shifting.{IsEmptied, AreEmptied, is_freed, IsTaken, AreTaken};
 
 use crate::ShiftRefusal;
-use crate::sums::was_log;
 use f2_bytes::{count_bits, set_bit_msb};
+use f2_change::was_log;
 use f2_disk::Disk;
 use f2_sum::SitEntry;
 use f2_view::Mount;

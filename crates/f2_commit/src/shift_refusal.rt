@@ -3,8 +3,8 @@ ghost use Rattle.std.specs.Prelude.{◌≡◌};
 ghost use Rattle.f2_commit.specs.ShiftRefusals.{of_table, of_view, of_prepare};
 ghost use Rattle.f2_commit.specs.declared.shift_refusal.ShiftRefusal.TheVariants.{DiskFault as Faulted, NoMemory as MemoryShort};
 
-use crate::PrepareRefusal;
 use f2_bytes::NoMemory;
+use f2_change::PrepareRefusal;
 use f2_disk::DiskFault;
 use f2_tables::TableRefusal;
 use f2_view::ViewRefusal;

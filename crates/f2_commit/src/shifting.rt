@@ -1,4 +1,4 @@
-// A batch of blocks that moves to free segments, by one commit.
+// A batch of blocks that moves to free segments.
 ghost use Rattle.std.specs.Prelude.{◌≡◌, ◌≢◌, ◌≤◌, ◌<◌, ◌+◌, ◌*◌, ◌^◌, ◌++◌, ◌-◌, ℕ, List, length, drop, map, true, false, All, Some, None, Err, IfOk, IfSome, IsErrOf, IsTrue};
 ghost use Rattle.std.specs.List.Sorted.{IsStrictlyIncreasing};
 ghost use Rattle.f2_bytes.specs.Bytes.{Image, quotient_up};
@@ -14,22 +14,22 @@ ghost use Rattle.f2_pack.specs.Written.{written};
 ghost use Rattle.f2_sum.specs.Records.{sit_entry};
 ghost use Rattle.f2_sum.specs.declared.records.NatEntry.{NatEntry as HeldNatEntry};
 ghost use Rattle.f2_view.specs.Mounted.{layout_in, IsKept, IsMountOf};
-ghost use Rattle.f2_commit.specs.Change.{log_at};
-ghost use Rattle.f2_commit.specs.Gathering.{AllMain, addresses_of, moved_block};
+ghost use Rattle.f2_change.specs.Change.{log_at};
+ghost use Rattle.f2_gather.specs.Gathering.{AllMain, addresses_of, moved_block};
 ghost use Rattle.f2_commit.specs.Moves.{AreTargets, HasMoved, HasSameFiles, moved_data, moved_nodes};
 ghost use Rattle.f2_commit.specs.Shifting.{IsBatch, HasBlocks, HasSegments, HasSummaries, HasParts, IsSafe, node_addresses};
-ghost use Rattle.f2_commit.specs.Writes.{Follows, AvoidsSupport, committed};
+ghost use Rattle.f2_change.specs.Writes.{Follows, AvoidsSupport, committed};
 
-use crate::coverings::put_in_order;
+use crate::ShiftRefusal;
 use crate::free_nids::least_free_nid;
-use crate::gathering::{MovedBlock, gather};
 use crate::moved_blocks::{
     moved_entries, node_entries, push_data_blocks, push_data_sums, push_node_blocks, push_node_sums,
 };
 use crate::moved_segments::{WARM_DATA, WARM_NODE, push_filled, push_left};
-use crate::{Change, Counts, Ready, ShiftRefusal, commit, prepare};
 use f2_bytes::Layout;
+use f2_change::{Change, Counts, Ready, commit, prepare};
 use f2_disk::{Block, Disk};
+use f2_gather::{MovedBlock, gather, put_in_order};
 use f2_pack::Log;
 use f2_sum::SitEntry;
 use f2_tables::NatEntry;
@@ -308,7 +308,7 @@ fn ready_to_move<D: Disk>(
     }
 }
 
-/// Moves the blocks at these addresses of a checked image to free segments, by one commit: at most 4096 addresses of valid main
+/// Moves the blocks at these addresses of a checked image to free segments: at most 4096 addresses of valid main
 /// blocks, ascending. The data go to the first targets by ascending address, and the nodes that move with them to the next ones
 /// by ascending nid; an extent that covers a block that moves is made zero. Targets are different free main segments, counted
 /// from 0; there are at least as many as the data and the nodes that `weigh` answers fill, 512 blocks each.

@@ -17,8 +17,3 @@ pub use building::{BuildRefusal, Built, Entry, build};
 pub use hash::name_hash;
 pub use names::Name;
 pub use scan::{DirScan, Item};
-
-#[cfg(test)]
-mod build_tests;
-#[cfg(test)]
-mod tests;

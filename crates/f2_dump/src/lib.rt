@@ -23,6 +23,3 @@ pub use dumping::{DumpRefusal, What, dump};
 pub use entries::push_decimal;
 pub use names::{checkpoint_names_are_known, inode_names_are_known};
 pub use trees::dump_tree;
-
-#[cfg(test)]
-mod tests;

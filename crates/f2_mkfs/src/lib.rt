@@ -17,6 +17,3 @@ mod tables;
 pub use formatting::{FormatRefusal, Options, format};
 pub use label::Label;
 pub use laws::laid_is_new;
-
-#[cfg(test)]
-mod tests;

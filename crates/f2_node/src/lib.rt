@@ -25,6 +25,3 @@ pub use places::{address_at, has_bytes, has_slots, is_inline, nid_at};
 pub use records::{Footer, Kind, Spot};
 pub use spots::{locate, parent_of};
 pub use words::words_used;
-
-#[cfg(test)]
-mod tests;

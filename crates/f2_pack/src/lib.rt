@@ -20,6 +20,3 @@ pub use laws::{
     higher_pack_counts, pack_reads_its_blocks, pack_summaries_are_kept, written_pack_is_read,
 };
 pub use writing::{NewPack, write_body, write_head};
-
-#[cfg(test)]
-mod tests;

@@ -8,7 +8,7 @@ use Rattle.std.proofs.lemmas.List.FromFn.{length-range_with_len, get_or-range_wi
 use Rattle.f2_bytes.specs.declared.layout.Layout.{Layout}
 use Rattle.f2_bytes.specs.Superblock.{segment_of, segment_start}
 use Rattle.f2_bytes.specs.Defragment.{Placement, is_among, occupied, part_in, cut_batches, batches_of}
-use Rattle.f2_commit.proofs.Ascending.{member_passes, any-map}
+use Rattle.f2_gather.proofs.Ascending.{member_passes, any-map}
 use Rattle.f2_reloc.proofs.Occupied.{among_filter, kept_length}
 use Rattle.f2_reloc.proofs.Standing.{stands}
 

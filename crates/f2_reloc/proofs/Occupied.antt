@@ -11,7 +11,7 @@ use Rattle.f2_bytes.specs.Bytes.{numbers_below, quotient_up}
 use Rattle.f2_bytes.specs.Defragment.{Placement, all_places, is_among, data_among, is_covered, is_moved_node, nodes_among, batch_need, put_at, moved_batch, occupied}
 use Rattle.f2_bytes.proofs.AllPlaces.{All-below}
 use Rattle.f2_bytes.proofs.Below.{found_below, some_below, length-numbers_below}
-use Rattle.f2_commit.proofs.Ascending.{bools_same}
+use Rattle.f2_gather.proofs.Ascending.{bools_same}
 use Rattle.f2_commit.proofs.MoveAmong.{any_filter, among_kept}
 use Rattle.f2_reloc.proofs.Standing.{has_slot, has_node, stands, filter_same}
 

@@ -18,7 +18,7 @@ use Rattle.f2_bytes.proofs.CheckedChain.{rule_met, part_clear}
 use Rattle.f2_bytes.proofs.CheckedNodes.{no_part, nat-below}
 use Rattle.f2_bytes.proofs.CheckedUsed.{main_range, data_slot, node_entry, inode_below, slot_data, entry_node}
 use Rattle.f2_bytes.proofs.SlotSupport.{body_checked}
-use Rattle.f2_commit.proofs.Ascending.{bools_same, any-flat_map, any-map}
+use Rattle.f2_gather.proofs.Ascending.{bools_same, any-flat_map, any-map}
 use Rattle.f2_commit.proofs.MoveAmong.{some_place}
 
 -- a block of a file, or a node, has this address

@@ -11,7 +11,7 @@ use Rattle.f2_bytes.specs.Support.{is_free}
 use Rattle.f2_bytes.specs.Tree.{tree}
 use Rattle.f2_bytes.specs.Defragment.{Placement, placement, cut_batches, is_among, occupied, batch_need, move_need, part_in, Moves, moves_after, defrag_batches, defrag_targets, defrag_need, defrag_have, defrag_moves}
 use Rattle.f2_commit.specs.Moves.{AreTargets, AreSamePlaces, HasMoved}
-use Rattle.f2_commit.specs.declared.weighing.Weight.{Weight}
+use Rattle.f2_gather.specs.declared.weighing.Weight.{Weight}
 use Rattle.f2_reloc.specs.declared.batches.Range.{Range}
 use Rattle.f2_reloc.specs.declared.batches.Batch.{Batch}
 use Rattle.f2_commit.specs.declared.relocating.Moved.{Moved}

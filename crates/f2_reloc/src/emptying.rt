@@ -210,7 +210,7 @@ fn planned<D: Disk>(
 }
 
 /// Empties a range of the main area of a checked image: the blocks that stand there, and the nodes that hold their addresses,
-/// move to free segments outside of it, from the target's on upward, or downward; batch by batch, each by one commit.
+/// move to free segments outside of it, from the target's on upward, or downward; batch by batch.
 ///
 /// Where the range has no valid block nothing is written, and the free segments are not looked for. After `NoSpace` nothing was
 /// written. Whatever it answers, the disk reads as a checked image with the same tree and the same superblock copies, and, where

@@ -1,4 +1,4 @@
-//! A range of block addresses is emptied: what stands there moves to free segments, batch by batch, each by one commit.
+//! A range of block addresses is emptied: what stands there moves to free segments, batch by batch.
 #![tactic(auto)]
 
 mod batches;

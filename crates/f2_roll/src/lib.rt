@@ -13,6 +13,3 @@ mod walked;
 pub use following::chain;
 pub use nodes::Chain;
 pub use refusal::RollRefusal;
-
-#[cfg(test)]
-mod tests;

@@ -19,6 +19,3 @@ pub use records::{
     sit_entry_at, sit_entry_bytes, summary_at,
 };
 pub use sit_journal::SitJournal;
-
-#[cfg(test)]
-mod tests;

@@ -17,6 +17,3 @@ pub use put::{put_nat, put_sit};
 pub use refusal::TableRefusal;
 pub use sit::Sit;
 pub use ssa::ssa_read;
-
-#[cfg(test)]
-mod tests;

@@ -6,9 +6,9 @@ use Rattle.f2_bytes.specs.Bytes.{Block, Image, block_at}
 use Rattle.f2_bytes.specs.Check.{is_checked, is_marked}
 use Rattle.f2_bytes.specs.Defragment.{defrag_need, defrag_have}
 use Rattle.f2_bytes.specs.Superblock.{passes, copy_of, super_of}
-use Rattle.f2_check.specs.Verdicts.{IsVerdict, Says}
-use Rattle.f2_check.specs.declared.verdict.Verdict.{Verdict}
-use Rattle.f2_check.specs.declared.verdict.Verdict.TheVariants as verdict
+use Rattle.f2_defects.specs.Verdicts.{IsVerdict, Says}
+use Rattle.f2_defects.specs.declared.verdict.Verdict.{Verdict}
+use Rattle.f2_defects.specs.declared.verdict.Verdict.TheVariants as verdict
 use Rattle.f2_disk.specs.Disk.{State, Reads, LeavesOnly}
 use Rattle.f2_disk.proofs.Runs.{at_rest, quiet_on, reads_first, started, weaker}
 use Rattle.f2_super.specs.Load.{KeepsSuper}

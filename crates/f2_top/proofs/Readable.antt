@@ -8,9 +8,9 @@ use Rattle.f2_bytes.specs.Check.{failing_rule, is_checked, is_readable}
 use Rattle.f2_bytes.specs.Checkpoint.{pack, pack_at, pack_head, chosen_pack, checkpoint_ver, has_checkpoint}
 use Rattle.f2_bytes.specs.Journal.{nat_journal_area, sit_journal_area, journal_count, nat_room, sit_room, are_journals_bounded}
 use Rattle.f2_bytes.specs.Superblock.{copy_of, super_copy, has_twins, is_loadable, layout, layout_of, unsupported_features, block_count}
-use Rattle.f2_check.specs.Verdicts.{Says, IsVerdict}
-use Rattle.f2_check.specs.declared.verdict.Verdict.{Verdict}
-use Rattle.f2_check.specs.declared.verdict.Verdict.TheVariants.{Clean, Defects}
+use Rattle.f2_defects.specs.Verdicts.{Says, IsVerdict}
+use Rattle.f2_defects.specs.declared.verdict.Verdict.{Verdict}
+use Rattle.f2_defects.specs.declared.verdict.Verdict.TheVariants.{Clean, Defects}
 use Rattle.f2_super.specs.Load.{loaded, loaded_copy, refusal_of, unless}
 use Rattle.f2_super.specs.declared.loading.Found.{Found}
 use Rattle.f2_super.specs.declared.loading.SuperRefusal.{SuperRefusal}

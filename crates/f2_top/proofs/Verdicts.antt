@@ -2,9 +2,9 @@
 use Rattle.std.proofs.Common.{◌≡◌, Bool, Option, Some, None, ℕ, refl}
 use Rattle.std.specs.Prelude.{flat_map}
 use Rattle.f2_bytes.specs.Bytes.{Image}
-use Rattle.f2_check.specs.Verdicts.{Says, IsVerdict}
-use Rattle.f2_check.specs.declared.verdict.Verdict.{Verdict}
-use Rattle.f2_check.specs.declared.verdict.Verdict.TheVariants as verdict
+use Rattle.f2_defects.specs.Verdicts.{Says, IsVerdict}
+use Rattle.f2_defects.specs.declared.verdict.Verdict.{Verdict}
+use Rattle.f2_defects.specs.declared.verdict.Verdict.TheVariants as verdict
 use Rattle.f2_top.specs.Answers.{IsWhole}
 use Rattle.f2_top.specs.Run.{least_failing, verdict_answer, verdict_lines, said_answer, said_lines}
 use Rattle.f2_top.specs.Text.{defect_line, defect_lines}

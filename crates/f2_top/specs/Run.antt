@@ -14,9 +14,9 @@ use Rattle.f2_view.specs.declared.mounting.MountRefusal.{MountRefusal}
 use Rattle.f2_view.specs.declared.mounting.MountRefusal.TheVariants as mount
 use Rattle.f2_dump.specs.declared.dumping.What.{What}
 use Rattle.f2_bytes.specs.Check.{defects, failing_rule}
-use Rattle.f2_check.specs.Collected.{defect_in}
-use Rattle.f2_check.specs.declared.verdict.Verdict.{Verdict}
-use Rattle.f2_check.specs.declared.verdict.Verdict.TheVariants as verdict
+use Rattle.f2_defects.specs.Collected.{defect_in}
+use Rattle.f2_defects.specs.declared.verdict.Verdict.{Verdict}
+use Rattle.f2_defects.specs.declared.verdict.Verdict.TheVariants as verdict
 use Rattle.f2_dump.specs.Text.{dump_lines, missing, outside}
 use Rattle.f2_dump.specs.Trees.{tree_lines}
 use Rattle.f2_mkfs.specs.Formatting.{has_magic, size_answer, unless_there, format_answer}

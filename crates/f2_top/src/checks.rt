@@ -1,7 +1,7 @@
 // The jobs that check an image.
 ghost use Rattle.std.specs.Prelude.{◌≡◌, ◌≢◌, ◌≤◌, ◌⊎◌, ◌++◌, List, ℕ, Some, None, IfOk, OnOk, flat_map, map};
 ghost use Rattle.f2_bytes.specs.Bytes.{Image};
-ghost use Rattle.f2_check.specs.Collected.{defect_in};
+ghost use Rattle.f2_defects.specs.Collected.{defect_in};
 ghost use Rattle.f2_disk.specs.Disk.{Reads, Goes, Rose};
 ghost use Rattle.f2_dump.specs.Trees.{tree_lines};
 ghost use Rattle.f2_view.specs.Mounted.{IsMountOf, layout_in};

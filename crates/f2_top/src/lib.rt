@@ -21,28 +21,3 @@ pub use answer::{Answer, Refusal};
 pub use jobs::{Job, WordsRefusal};
 pub use top::run;
 pub use words::job;
-
-#[cfg(test)]
-mod defrag_tests;
-#[cfg(test)]
-mod dump_tests;
-#[cfg(test)]
-mod file_tests;
-#[cfg(test)]
-mod fsck_tests;
-#[cfg(test)]
-mod images;
-#[cfg(test)]
-mod mkfs_tests;
-#[cfg(test)]
-mod mkfs_word_tests;
-#[cfg(test)]
-mod table_tests;
-#[cfg(test)]
-mod tables;
-#[cfg(test)]
-mod tests;
-#[cfg(test)]
-mod user_image;
-#[cfg(test)]
-mod word_tests;

@@ -5,7 +5,7 @@ ghost use Rattle.f2_bytes.specs.Check.{is_checked, is_marked, is_readable};
 ghost use Rattle.f2_bytes.specs.Checkpoint.{checkpoint_ver};
 ghost use Rattle.f2_bytes.specs.Defragment.{main_end as area_end, range_start, range_end, range_target, defrag_need, defrag_have};
 ghost use Rattle.f2_bytes.specs.Superblock.{IsInOrder, layout};
-ghost use Rattle.f2_check.specs.Verdicts.{IsVerdict};
+ghost use Rattle.f2_defects.specs.Verdicts.{IsVerdict};
 ghost use Rattle.f2_disk.specs.Disk.{Reads, Goes, Rose};
 ghost use Rattle.f2_reloc.specs.Emptying.{end_of, IsInside, IsEmptied};
 ghost use Rattle.f2_commit.specs.declared.relocating.RelocRefusal.TheVariants.{NoSpace};

@@ -12,6 +12,3 @@ pub use accessors::Mount;
 pub use directories::Named;
 pub use mounting::{MountRefusal, mount};
 pub use readings::ViewRefusal;
-
-#[cfg(test)]
-mod tests;

@@ -4,7 +4,7 @@ use Rattle.f2_disk.proofs.Runs.{reads_then, goes_then}
 use Rattle.f2_tables.specs.Tables.{NatTable, nat_in}
 use Rattle.f2_view.proofs.TableReadings.{nat_reading}
 use Rattle.f2_commit.specs.FreeNids.{IsFirstFree}
-use Rattle.f2_commit.proofs.GatheredSteps.{layout_is}
+use Rattle.f2_gather.proofs.GatheredSteps.{layout_is}
 use Rattle.f2_commit.proofs.LeastNids.{start, table_opened, taken-more, least-some, least-none}
 use Rattle.f2_commit.proofs.free_nids.least_free_nid.Goals as goal
 

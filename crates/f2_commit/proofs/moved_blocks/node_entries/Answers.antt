@@ -8,7 +8,7 @@ use Rattle.f2_disk.proofs.Runs.{reads_then, goes_then}
 use Rattle.f2_sum.specs.Records.{nat_entry}
 use Rattle.f2_sum.specs.declared.records.NatEntry.{NatEntry}
 use Rattle.f2_view.specs.Mounted.{layout_in, IsMountOf}
-use Rattle.f2_commit.proofs.GatheredSteps.{maps}
+use Rattle.f2_gather.proofs.GatheredSteps.{maps}
 use Rattle.f2_commit.proofs.PlacedBlocks.{firsts_more, not_main}
 use Rattle.f2_commit.proofs.moved_blocks.node_entries.Goals as goal
 

@@ -4,8 +4,8 @@ use Rattle.std.proofs.lemmas.List.Elements.{All-push}
 use Rattle.f2_bytes.specs.Bytes.{Block, block_at}
 use Rattle.f2_bytes.specs.Superblock.{is_main}
 use Rattle.f2_disk.proofs.Runs.{reads_same, reads_then, goes_then}
-use Rattle.f2_commit.specs.declared.gathering.MovedBlock.{MovedBlock}
-use Rattle.f2_commit.specs.Gathering.{addresses_of}
+use Rattle.f2_gather.specs.declared.gathering.MovedBlock.{MovedBlock}
+use Rattle.f2_gather.specs.Gathering.{addresses_of}
 use Rattle.f2_commit.proofs.PlacedBlocks.{data-none, data-more}
 use Rattle.f2_commit.proofs.moved_blocks.push_data_blocks.Goals as goal
 

@@ -2,7 +2,7 @@ use Rattle.std.proofs.Common.{◌≡◌, ℕ, ◌++◌, All, Some, true}
 use Rattle.f2_bytes.specs.Bytes.{Block, Image}
 use Rattle.f2_bytes.specs.Superblock.{is_main}
 use Rattle.f2_disk.specs.Disk.{Reads, Goes}
-use Rattle.f2_commit.specs.Gathering.{addresses_of}
+use Rattle.f2_gather.specs.Gathering.{addresses_of}
 use Rattle.f2_commit.proofs.PlacedBlocks.{data_so_far}
 use Rattle.f2_commit.proofs.moved_blocks.push_data_blocks.Given as goal
 

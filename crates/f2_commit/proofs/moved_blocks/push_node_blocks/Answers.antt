@@ -5,7 +5,7 @@ use Rattle.f2_bytes.specs.Bytes.{Block, block_at}
 use Rattle.f2_bytes.specs.Superblock.{is_main}
 use Rattle.f2_disk.proofs.Runs.{reads_same, reads_then, goes_then}
 use Rattle.f2_sum.specs.declared.records.NatEntry.{NatEntry}
-use Rattle.f2_commit.specs.Gathering.{addresses_of}
+use Rattle.f2_gather.specs.Gathering.{addresses_of}
 use Rattle.f2_commit.specs.Shifting.{IsShifted}
 use Rattle.f2_commit.proofs.PlacedBlocks.{last_more, shifted-none, shifted-more}
 use Rattle.f2_commit.proofs.moved_blocks.push_node_blocks.Goals as goal

@@ -1,6 +1,6 @@
 use Rattle.std.proofs.Common.{◌+◌, map, sym, arith}
 use Rattle.std.proofs.lemmas.List.{get_or-map}
-use Rattle.f2_commit.specs.declared.gathering.MovedBlock.{MovedBlock}
+use Rattle.f2_gather.specs.declared.gathering.MovedBlock.{MovedBlock}
 use Rattle.f2_commit.specs.Moves.{node_summary}
 use Rattle.f2_commit.specs.Shifting.{data_summary}
 use Rattle.f2_commit.proofs.PlacedBlocks.{entries-more}

@@ -2,7 +2,7 @@ use Rattle.std.proofs.Common.{◌∙◌, ◌&&◌, nat_le, nat_lt}
 use Rattle.std.specs.List.{list_any}
 use Rattle.f2_bytes.specs.Bytes.{word}
 use Rattle.f2_bytes.specs.Defragment.{is_covered, regular_extent}
-use Rattle.f2_commit.specs.Gathering.{addresses_of}
+use Rattle.f2_gather.specs.Gathering.{addresses_of}
 use Rattle.f2_commit.proofs.MovedWords.{extent_zeroed, extent_kept}
 use Rattle.f2_commit.proofs.moved_nodes.drop_extent.Goals as goal
 

@@ -1,7 +1,7 @@
 use Rattle.std.proofs.Common.{◌∙◌, ◌+◌, nat_le, nat_lt}
 use Rattle.f2_bytes.specs.Bytes.{word}
 use Rattle.f2_bytes.specs.Node.{has_slots, address_count}
-use Rattle.f2_commit.specs.Gathering.{addresses_of}
+use Rattle.f2_gather.specs.Gathering.{addresses_of}
 use Rattle.f2_commit.specs.Shifting.{placed_data}
 use Rattle.f2_commit.proofs.MovedWords.{slots_moved, slots_kept}
 use Rattle.f2_commit.proofs.moved_nodes.move_slots.Goals as goal

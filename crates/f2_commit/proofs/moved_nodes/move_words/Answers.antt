@@ -1,5 +1,5 @@
 use Rattle.std.proofs.Common.{ap, ◌∙◌}
-use Rattle.f2_commit.specs.Gathering.{addresses_of}
+use Rattle.f2_gather.specs.Gathering.{addresses_of}
 use Rattle.f2_commit.specs.Shifting.{placed_data}
 use Rattle.f2_commit.proofs.MovedWords.{words-none, words-more}
 use Rattle.f2_commit.proofs.moved_nodes.move_words.Goals as goal

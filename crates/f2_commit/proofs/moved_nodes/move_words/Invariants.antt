@@ -1,6 +1,6 @@
 use Rattle.std.proofs.Common.{◌≡◌, ℕ, ◌<◌}
 use Rattle.f2_bytes.specs.Bytes.{word}
-use Rattle.f2_commit.specs.Gathering.{addresses_of}
+use Rattle.f2_gather.specs.Gathering.{addresses_of}
 use Rattle.f2_commit.specs.Shifting.{placed_data}
 use Rattle.f2_commit.proofs.MovedWords.{so_far}
 use Rattle.f2_commit.proofs.moved_nodes.move_words.Given as goal

@@ -1,5 +1,5 @@
 use Rattle.std.proofs.Common.{sym}
-use Rattle.f2_commit.specs.Gathering.{addresses_of}
+use Rattle.f2_gather.specs.Gathering.{addresses_of}
 use Rattle.f2_commit.proofs.MovedWords.{shifted_direct}
 use Rattle.f2_commit.proofs.moved_nodes.moved_direct.Goals as goal
 

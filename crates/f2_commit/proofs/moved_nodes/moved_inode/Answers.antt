@@ -1,4 +1,4 @@
-use Rattle.f2_commit.specs.Gathering.{addresses_of}
+use Rattle.f2_gather.specs.Gathering.{addresses_of}
 use Rattle.f2_commit.proofs.MovedWords.{shifted_inode}
 use Rattle.f2_commit.proofs.moved_nodes.moved_inode.Goals as goal
 

@@ -1,7 +1,7 @@
 use Rattle.std.proofs.Common.{◌/◌, refl, sym, ap, ◌∙◌}
 use Rattle.f2_bytes.specs.Node.{is_direct}
 use Rattle.f2_node.specs.declared.records.Footer.{Footer}
-use Rattle.f2_commit.specs.Gathering.{addresses_of}
+use Rattle.f2_gather.specs.Gathering.{addresses_of}
 use Rattle.f2_commit.proofs.MovedWords.{shifted_other}
 use Rattle.f2_commit.proofs.moved_nodes.moved_node.Goals as goal
 

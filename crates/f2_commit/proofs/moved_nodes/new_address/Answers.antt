@@ -1,9 +1,9 @@
 use Rattle.std.proofs.Common.{nat_lt, rules, sym, ◌∙◌, arith}
 use Rattle.std.proofs.lemmas.List.{length-map}
 use Rattle.std.proofs.lemmas.List.Sorted.{IsPartitionPoint-from_clause, IsPartitionedBy-ltb}
-use Rattle.f2_commit.specs.declared.gathering.MovedBlock.{MovedBlock}
-use Rattle.f2_commit.specs.Gathering.{addresses_of}
-use Rattle.f2_commit.proofs.Extents.{rises_by}
+use Rattle.f2_gather.specs.declared.gathering.MovedBlock.{MovedBlock}
+use Rattle.f2_gather.specs.Gathering.{addresses_of}
+use Rattle.f2_gather.proofs.Extents.{rises_by}
 use Rattle.f2_commit.proofs.PlacedData.{placed_at, placed_own, place_found, place_none}
 use Rattle.f2_commit.proofs.moved_nodes.new_address.Goals as goal
 use Rattle.f2_commit.proofs.moved_nodes.new_address.Goals.{else-at-moved-via-then-at-moved+else-moved-at, else-at-moved-via-else-at-moved}

@@ -3,7 +3,7 @@ use Rattle.f2_bytes.specs.declared.layout.Layout.{Layout}
 use Rattle.f2_bytes.specs.Journal.{SitEntry}
 use Rattle.f2_bytes.specs.SegmentTable.{sit}
 use Rattle.f2_view.specs.Mounted.{layout_in}
-use Rattle.f2_commit.proofs.GatheredSteps.{layout_is}
+use Rattle.f2_gather.proofs.GatheredSteps.{layout_is}
 use Rattle.f2_commit.proofs.LeftSegments.{emptied_entry}
 use Rattle.f2_commit.proofs.SegmentKinds.{sit_kind}
 use Rattle.f2_commit.proofs.moved_segments.left_entry.Goals as goal

@@ -1,10 +1,10 @@
 use Rattle.std.proofs.Common.{◌++◌, ap, ◌∙◌, arith}
 use Rattle.std.proofs.lemmas.List.{take_all}
 use Rattle.f2_bytes.specs.Defragment.{is_among}
-use Rattle.f2_commit.specs.declared.gathering.MovedBlock.{MovedBlock}
-use Rattle.f2_commit.specs.Gathering.{addresses_of}
+use Rattle.f2_gather.specs.declared.gathering.MovedBlock.{MovedBlock}
+use Rattle.f2_gather.specs.Gathering.{addresses_of}
 use Rattle.f2_commit.specs.Shifting.{node_addresses}
-use Rattle.f2_commit.proofs.GatheredSteps.{maps}
+use Rattle.f2_gather.proofs.GatheredSteps.{maps}
 use Rattle.f2_commit.proofs.LeftAddresses.{all_left}
 use Rattle.f2_commit.proofs.shifting.left_addresses.Goals as goal
 

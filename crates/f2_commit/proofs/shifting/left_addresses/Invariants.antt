@@ -1,5 +1,5 @@
 use Rattle.std.proofs.Common.{◌≡◌, ◌++◌, take}
-use Rattle.f2_commit.specs.Gathering.{addresses_of}
+use Rattle.f2_gather.specs.Gathering.{addresses_of}
 use Rattle.f2_commit.specs.Shifting.{node_addresses}
 use Rattle.f2_commit.proofs.shifting.left_addresses.Given as goal
 

@@ -1,6 +1,6 @@
 use Rattle.std.proofs.Common.{◌++◌, ap, subst, ◌∙◌}
 use Rattle.f2_bytes.specs.declared.layout.Layout.{Layout}
-use Rattle.f2_commit.specs.Gathering.{addresses_of}
+use Rattle.f2_gather.specs.Gathering.{addresses_of}
 use Rattle.f2_commit.specs.Shifting.{data_blocks, AreShifted}
 use Rattle.f2_commit.proofs.shifting.moved_blocks.Goals as goal
 

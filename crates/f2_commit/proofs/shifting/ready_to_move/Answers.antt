@@ -5,11 +5,11 @@ use Rattle.f2_bytes.specs.Superblock.{is_main, segment_of}
 use Rattle.f2_bytes.specs.Support.{is_free, is_support}
 use Rattle.f2_disk.proofs.Runs.{reads_then, goes_then}
 use Rattle.f2_view.specs.Mounted.{Mounted, IsMountOf, layout_in}
-use Rattle.f2_commit.specs.declared.gathering.MovedBlock.{MovedBlock}
-use Rattle.f2_commit.specs.Gathering.{addresses_of, moved_block}
-use Rattle.f2_commit.specs.Writes.{committed}
+use Rattle.f2_gather.specs.declared.gathering.MovedBlock.{MovedBlock}
+use Rattle.f2_gather.specs.Gathering.{addresses_of, moved_block}
+use Rattle.f2_change.specs.Writes.{committed}
 use Rattle.f2_commit.proofs.ShiftWhole.{found_free, found_spare, found_moves, need_met, some_has}
-use Rattle.f2_commit.proofs.Valid.{sealed_version}
+use Rattle.f2_change.proofs.Valid.{sealed_version}
 use Rattle.f2_commit.proofs.shifting.ready_to_move.Goals as goal
 
 pub returns-then-segments_for-targets-clause-some : goal.returns-then-segments_for-targets-clause-some

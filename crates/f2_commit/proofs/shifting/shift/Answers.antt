@@ -3,7 +3,7 @@ use Rattle.f2_bytes.specs.Checkpoint.{checkpoint_ver}
 use Rattle.f2_disk.proofs.Runs.{goes_then}
 use Rattle.f2_view.specs.Mounted.{Mounted, IsMountOf}
 use Rattle.f2_commit.specs.Moves.{HasSameFiles}
-use Rattle.f2_commit.specs.Writes.{OldOrNew, committed}
+use Rattle.f2_change.specs.Writes.{OldOrNew, committed}
 use Rattle.f2_commit.proofs.ShiftWhole.{some_has, own_files, still_checked, read_alone, read_before}
 use Rattle.f2_commit.proofs.shifting.shift.Goals as goal
 

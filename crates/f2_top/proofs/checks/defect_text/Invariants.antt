@@ -1,6 +1,6 @@
 use Rattle.std.proofs.Common.{◌≡◌, map, take}
 use Rattle.std.specs.Prelude.{flat_map}
-use Rattle.f2_check.specs.Collected.{defect_in}
+use Rattle.f2_defects.specs.Collected.{defect_in}
 use Rattle.f2_top.specs.Text.{defect_line}
 use Rattle.f2_top.proofs.checks.defect_text.Given as goal
 

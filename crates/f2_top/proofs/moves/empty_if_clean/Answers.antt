@@ -1,8 +1,8 @@
 use Rattle.std.proofs.Common.{◌≡◌, ◌⊎◌, ◌∙◌, List, [], ℕ, Option, ap, sym, subst, inl, inr, ⊎_elim}
 use Rattle.std.specs.Prelude.{flat_map, map}
-use Rattle.f2_check.specs.Collected.{defect_in}
-use Rattle.f2_check.specs.Verdicts.{IsVerdict}
-use Rattle.f2_check.specs.declared.verdict.Verdict.TheVariants as verdict
+use Rattle.f2_defects.specs.Collected.{defect_in}
+use Rattle.f2_defects.specs.Verdicts.{IsVerdict}
+use Rattle.f2_defects.specs.declared.verdict.Verdict.TheVariants as verdict
 use Rattle.f2_top.specs.Ranges.{aim_at, space_answer, unless_failing, lines_unless_failing, moves_line, LeavesEmptied}
 use Rattle.f2_top.specs.Text.{IsFront, defect_line}
 use Rattle.f2_top.specs.declared.answer.Answer.TheVariants.{DiskFault, NoMemory, SinkFault}

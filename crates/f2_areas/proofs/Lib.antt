@@ -1,0 +1,13 @@
+pub mod CheckpointParts
+pub mod CopyParts
+pub mod Distinct
+pub mod CountParts
+pub mod LogFacts
+pub mod LogSummaries
+pub mod LogParts
+pub mod SegmentFacts
+pub mod SummaryParts
+pub mod SummaryWalks
+pub mod ValidityParts
+pub mod ValidityWalks
+pub mod Walking

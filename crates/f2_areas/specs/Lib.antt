@@ -1,0 +1,4 @@
+pub mod LogSegments
+pub mod RuleAnswers
+pub mod Totals
+pub mod Walked

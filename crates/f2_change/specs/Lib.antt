@@ -1,0 +1,9 @@
+pub mod Carried
+pub mod Change
+pub mod CommitSteps
+pub mod Heads
+pub mod Kept
+pub mod NewPacks
+pub mod Refusals
+pub mod TableBlocks
+pub mod Writes

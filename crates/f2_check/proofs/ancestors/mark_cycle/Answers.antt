@@ -1,9 +1,0 @@
-use Rattle.std.proofs.Common.{rules}
-use Rattle.f2_check.specs.Ancestors.{parent_in}
-use Rattle.f2_check.proofs.Climbs.{cycle_of_climb}
-use Rattle.f2_check.proofs.ancestors.mark_cycle.Goals as goal
-
-pub returns : goal.returns
-returns c =
-    cycle_of_climb (parent_in c.args.parents.now) c.args.settled.now c.args.own.now c.args.stop c.climb.new.marks c.climb.result
-    (search rules) (search rules) c.climb.ensures.climbed

@@ -1,9 +1,0 @@
-use Rattle.std.proofs.Common.{◌≡◌}
-use Rattle.f2_bytes.specs.Bytes.{Image}
-use Rattle.f2_check.specs.Known.{IsKnown}
-use Rattle.f2_check.specs.Repeats.{node_addresses}
-use Rattle.f2_check.proofs.repeats.Claims.of_nodes.Given as goal
-
--- the addresses of the nodes so far
-abbrev pub invariant-loop-nid : goal.invariant-loop-nid
-invariant-loop-nid l = (image : Image) → IsKnown image l.nodes → l.claims.addresses.items ≡ node_addresses image l.nid

@@ -1,6 +1,0 @@
-use Rattle.std.proofs.Common.{◌≡◌, take}
-use Rattle.f2_commit.specs.Change.{given}
-use Rattle.f2_commit.proofs.given.given.Given as goal
-
-abbrev pub invariant-loop-w : goal.invariant-loop-w
-invariant-loop-w l = l.found ≡ given (take l.w-index l.blocks) l.number

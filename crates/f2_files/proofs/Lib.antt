@@ -1,0 +1,14 @@
+pub mod DirectRows
+pub mod RowWords
+pub mod AddressTakes
+pub mod AttributeDefects
+pub mod DirectoryBlocks
+pub mod ExtentDefects
+pub mod ExtentWalks
+pub mod KeptFiles
+pub mod PartitionCounts
+pub mod RepeatCounts
+pub mod RowSlots
+pub mod SlotCounts
+pub mod UsageCounts
+pub mod VisitedFiles

@@ -1,0 +1,3 @@
+pub mod ChainNodes
+pub mod NodePlaces
+pub mod SegmentMarks

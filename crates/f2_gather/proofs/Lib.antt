@@ -1,0 +1,11 @@
+pub mod Ascending
+pub mod BlockPlaces
+pub mod BlockSums
+pub mod Extents
+pub mod GatheredSteps
+pub mod Gatherings
+pub mod MovedNodes
+pub mod MovedOwners
+pub mod MovedRules
+pub mod MovedSets
+pub mod RisingLists

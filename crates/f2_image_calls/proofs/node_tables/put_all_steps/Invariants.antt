@@ -1,0 +1,10 @@
+use Rattle.std.proofs.Common.{◌≡◌}
+use Rattle.f2_disk.specs.Disk.{Goes}
+use Rattle.f2_image_calls.proofs.node_tables.put_all_steps.Given as goal
+
+-- the table is that of the same image, and the disk keeps its size
+abbrev pub invariant-loop : goal.invariant-loop
+invariant-loop g l = record {
+  layout : l.nat.layout ≡ l.initial.nat.layout;
+  goes : Goes (g.D.Disk.state l.initial.d) (g.D.Disk.state l.d);
+}

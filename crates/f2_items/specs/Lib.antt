@@ -1,0 +1,10 @@
+pub mod Ancestors
+pub mod Counted
+pub mod Directories
+pub mod DirectoryBlocks
+pub mod EachFile
+pub mod FirstPlaces
+pub mod ItemComparisons
+pub mod Namings
+pub mod OpenDirectories
+pub mod Visits

@@ -1,0 +1,12 @@
+pub mod Known
+pub mod Named
+pub mod OwnedBlocks
+pub mod OwnerTables
+pub mod Owners
+pub mod Parts
+pub mod Said
+pub mod Seen
+pub mod Segments
+pub mod Slots
+pub mod Survey
+pub mod Tallies
