@@ -60,9 +60,9 @@ pub(crate) fn nodes(
         return Err(CallError::Words);
     }
     let mut m = mounted(alloc, disk)?;
+    let entries = m.nat_entries(disk).map_err(of_view)?;
     let l = m.layout();
     let behind = chain(alloc, disk, &l, m.chosen().head().block()).map_err(of_roll)?;
-    let entries = m.nat_entries(disk).map_err(of_view)?;
     let found = chain_nodes(alloc, &m, &behind, disk, &entries).map_err(of_view)?;
     let counts = counting(alloc, &found).map_err(of_memory)?;
     let mut text = String::new(alloc);

@@ -89,7 +89,10 @@ pub(crate) fn shifted(
     check_main(&addresses, &l)?;
     check_order(&addresses)?;
     check_targets(&targets, &l)?;
-    let mut renewed = shift(alloc, m, &addresses, &targets, disk).map_err(of_shift)?;
+    let mut renewed = match shift(alloc, m, &addresses, &targets, disk) {
+        Ok(renewed) => renewed,
+        Err(refusal) => return Err(of_shift(refusal)),
+    };
     let mut text = String::new(alloc);
     put_readings(&mut renewed, disk, readings, &mut text)?;
     Ok(text)

@@ -138,6 +138,8 @@ fn put_all_steps<D: Disk>(
     text: &mut String,
 ) -> Result<(), CallError>
     requires lies { nat.old.layout.blocks ≤ (D.state d.old).size }
+    ensures layout { nat.new.layout ≡ nat.old.layout }
+    ensures goes { Goes (D.state d.old) (D.state d.new) }
 {
     let mut rest = words;
     for _ in 0..words.len() {

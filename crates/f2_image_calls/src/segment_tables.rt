@@ -40,7 +40,7 @@ fn put_get<D: Disk>(
     put_entry(segment, &entry, text)
 }
 
-// Sets an entry of warm data with so many valid blocks.
+// Sets an entry of hot nodes with so many valid blocks.
 fn put_set<D: Disk>(
     sit: &mut Sit,
     d: &mut D,
@@ -113,6 +113,8 @@ fn put_all_steps<D: Disk>(
 ) -> Result<(), CallError>
     requires lies { sit.old.layout.blocks ≤ (D.state d.old).size }
     requires segments { segments ≡ sit.old.layout.segments }
+    ensures layout { sit.new.layout ≡ sit.old.layout }
+    ensures goes { Goes (D.state d.old) (D.state d.new) }
 {
     let mut rest = words;
     for _ in 0..words.len() {
