@@ -79,23 +79,29 @@ impl Bench {
         }
     }
 
-    fn each_fault(&mut self, lines: &[Line], words: &[String], given: &Next) -> Result<(), Slip> {
+    // Answers whether there was a call to try.
+    fn each_fault(&mut self, lines: &[Line], words: &[String], given: &Next) -> Result<bool, Slip> {
         let start = self.disk.copy()?;
         let kinds = self.kinds_of(words, &start, given)?;
+        let mut any = false;
         for call in tried(self.alloc, &kinds)? {
+            any = true;
             let mut next = self.asked(given)?;
             next.fails = Vec::new(self.alloc);
             next.fails.push(call)?;
             let which = format!(in self.alloc; "where call {call} fails")?;
             self.once(lines, &start, next, which.as_str())?;
         }
-        Ok(())
+        Ok(any)
     }
 
-    fn each_stop(&mut self, lines: &[Line], words: &[String], given: &Next) -> Result<(), Slip> {
+    // Answers whether there was a moment to stop at.
+    fn each_stop(&mut self, lines: &[Line], words: &[String], given: &Next) -> Result<bool, Slip> {
         let start = self.disk.copy()?;
         let kinds = self.kinds_of(words, &start, given)?;
+        let mut any = false;
         for call in stops(self.alloc, &kinds)? {
+            any = true;
             for torn in [Torn::Old, Torn::New, Torn::Half] {
                 let mut next = self.asked(given)?;
                 next.stop = Some((call, torn));
@@ -103,7 +109,7 @@ impl Bench {
                 self.once(lines, &start, next, which.as_str())?;
             }
         }
-        Ok(())
+        Ok(any)
     }
 
     // Whether a run in which this put fails has another answer than one in which none does.
@@ -121,18 +127,21 @@ impl Bench {
         Ok(matches!(&self.outcome, Some(outcome) if outcome.status == Some(9)))
     }
 
-    fn each_put(&mut self, lines: &[Line], words: &[String], given: &Next) -> Result<(), Slip> {
+    // Answers whether there was a put to try.
+    fn each_put(&mut self, lines: &[Line], words: &[String], given: &Next) -> Result<bool, Slip> {
         let start = self.disk.copy()?;
+        let mut any = false;
         for put in 1..1000u64 {
             if !self.puts(words, &start, given, put)? {
                 break;
             }
+            any = true;
             let mut next = self.asked(given)?;
             next.no_puts.push(put)?;
             let which = format!(in self.alloc; "where put {put} fails")?;
             self.once(lines, &start, next, which.as_str())?;
         }
-        Ok(())
+        Ok(any)
     }
 
     // Does the lines, of which the first is a run, as often as the word says.
@@ -142,11 +151,16 @@ impl Bench {
             _ => return Err(wrong(self.alloc, "a run has to stand behind it")),
         };
         let given = std::mem::replace(&mut self.next, Next::new(self.alloc));
-        match which {
-            "fault" => self.each_fault(lines, &words, &given),
-            "stop" => self.each_stop(lines, &words, &given),
-            "put" => self.each_put(lines, &words, &given),
-            _ => Err(wrong(self.alloc, "each fault, each stop or each put")),
+        let any = match which {
+            "fault" => self.each_fault(lines, &words, &given)?,
+            "stop" => self.each_stop(lines, &words, &given)?,
+            "put" => self.each_put(lines, &words, &given)?,
+            _ => return Err(wrong(self.alloc, "each fault, each stop or each put")),
+        };
+        if any {
+            Ok(())
+        } else {
+            Err(wrong(self.alloc, "there is none to try"))
         }
     }
 }
