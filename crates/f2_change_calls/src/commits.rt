@@ -1,8 +1,10 @@
 // A change that is prepared and committed.
 ghost use Rattle.std.specs.Prelude.{◌≡◌, ◌<◌, true, All, OnOk};
 ghost use Rattle.f2_bytes.specs.Journal.{FitsSitEntry};
+ghost use Rattle.f2_bytes.specs.NodeAddressTable.{nid_limit};
 ghost use Rattle.f2_bytes.specs.Superblock.{is_main};
 ghost use Rattle.f2_sum.specs.Records.{sit_entry};
+ghost use Rattle.f2_view.specs.Mounted.{layout_in};
 
 use crate::failures::of_prepare;
 use crate::mounts::{is_in_main, mounted};
@@ -11,11 +13,12 @@ use crate::readings::put_readings;
 use crate::words::number;
 use f2_bytes::Layout;
 use f2_case_disk::{CallError, CaseDisk};
-use f2_commit::{commit, prepare};
+use f2_commit::{Change, commit, prepare};
 use f2_disk::Block;
 use f2_pack::Log;
 use f2_sum::SitEntry;
 use f2_tables::NatEntry;
+use f2_view::Mount;
 use std::alloc::Global;
 
 // Fails unless all nodes have numbers below the limit.
@@ -78,6 +81,22 @@ fn check_logs(logs: &[Log], l: &Layout) -> Result<(), CallError>
     Ok(())
 }
 
+// Fails unless all parts of a change lie in their areas.
+fn check_change(c: &Change, m: &Mount) -> Result<(), CallError>
+    ensures nids { OnOk result (All (λ w. w.0 < nid_limit (layout_in m.now)) c.now.nat.items) }
+    ensures segments { OnOk result (All (λ w. (w.0 < (layout_in m.now).segments) × FitsSitEntry (sit_entry w.1)) c.now.sit.items) }
+    ensures blocks { OnOk result (All (λ w. is_main (layout_in m.now) w.0 ≡ true) c.now.blocks.items) }
+    ensures sums { OnOk result (All (λ w. w.0 < (layout_in m.now).segments) c.now.sums.items) }
+    ensures logs { OnOk result (All (λ at. (at.segno < (layout_in m.now).segments) × (at.offset < 512)) c.now.logs) }
+{
+    let l = m.layout();
+    check_nodes(&c.nat, m.nid_limit())?;
+    check_segments(&c.sit, &l)?;
+    check_blocks(&c.blocks, &l)?;
+    check_summaries(&c.sums, &l)?;
+    check_logs(&c.logs, &l)
+}
+
 // Prepares and commits the change of a block. Answers what the mount that this answers reads.
 pub(crate) fn committed(
     alloc: Global,
@@ -89,14 +108,12 @@ pub(crate) fn committed(
         _ => return Err(CallError::Words),
     };
     let mut m = mounted(alloc, disk)?;
-    let l = m.layout();
     let c = change_in(alloc, &m, disk, at)?;
-    check_nodes(&c.nat, m.nid_limit())?;
-    check_segments(&c.sit, &l)?;
-    check_blocks(&c.blocks, &l)?;
-    check_summaries(&c.sums, &l)?;
-    check_logs(&c.logs, &l)?;
-    let ready = prepare(alloc, &mut m, c, disk).map_err(of_prepare)?;
+    check_change(&c, &m)?;
+    let ready = match prepare(alloc, &mut m, c, disk) {
+        Ok(ready) => ready,
+        Err(refusal) => return Err(of_prepare(refusal)),
+    };
     let mut renewed = commit(disk, m, ready)?;
     let mut text = String::new(alloc);
     put_readings(&mut renewed, disk, readings, &mut text)?;
