@@ -15,7 +15,10 @@ pub mod Turns
 pub mod Unmounted
 pub mod Used
 pub mod UuidDigits
+mod Alone
+mod Alone
 mod Answered
 mod Digits
+mod Missing
 mod Texts
 mod Verdicts

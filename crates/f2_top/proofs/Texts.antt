@@ -10,7 +10,7 @@ use Rattle.f2_mkfs.specs.declared.formatting.FormatRefusal.TheVariants as new
 use Rattle.f2_super.specs.declared.sizes.Geometry.{Geometry}
 use Rattle.f2_top.specs.Answers.{IsWhole}
 use Rattle.f2_top.specs.Run.{Allowed, AreSizes, FitsSizes, Printed, answer_of, new_answer}
-use Rattle.f2_top.specs.Text.{IsFront, IsText, last_of}
+use Rattle.f2_top.specs.Text.{Appends, IsFront, IsText, last_of}
 use Rattle.f2_top.specs.declared.answer.Answer.{Answer}
 use Rattle.f2_top.specs.declared.answer.Answer.TheVariants.{Done, Corrected, Defects, NoSpace, DiskFault, SinkFault, Usage, Refused, NoMemory}
 use Rattle.f2_top.specs.declared.jobs.Job.{Job}
@@ -48,13 +48,12 @@ text_of job early lines front (Refused refusal) not is = ap (λ l. l ++ last_of 
 text_of job early lines front NoMemory not (n, is) = (n, ap (λ l. front ++ l) (no_line job) ∙ append-nil front ∙ is)
 
 -- what a job put, where these lines are the job's
-pub front_of : (early lines own_early own : List ℕ) (answer : Answer) (had : List ℕ) (told : Option (List ℕ)) → early ≡ own_early → lines ≡ own
-    → ((text : List ℕ) × IsFront own_early own answer text × (told ≡ Some (had ++ text))) → (text : List ℕ) × IsFront early lines answer text × (told ≡ Some (had ++ text))
-front_of early lines own_early own answer had told first whole put = (
-  put.0,
-  subst (λ (l : List ℕ). IsFront l lines answer put.0) (sym first) (subst (λ (l : List ℕ). IsFront own_early l answer put.0) (sym whole) put.1),
-  put.2,
-)
+pub front_of : (early lines own_early own : List ℕ) (answer : Answer) (old new : Option (List ℕ)) → early ≡ own_early → lines ≡ own
+    → Appends old new (IsFront own_early own answer) → Appends old new (IsFront early lines answer)
+front_of early lines own_early own answer old new first whole put = λ had told.
+    let it = put had told in
+    let there = subst (λ (l : List ℕ). IsFront own_early l answer it.0) (sym whole) it.1 in
+    (it.0, subst (λ (l : List ℕ). IsFront l lines answer it.0) (sym first) there, it.2)
 
 -- a prefix of a text is one of a longer text
 prefix_of : (a b : List ℕ) (n : ℕ) → take n a ≡ take (min n (length a)) (a ++ b)
@@ -113,6 +112,7 @@ stopped_by job old new None is stopped named sizes = record {
     fault = λ e. cc;
     usage = λ none. absurd (named none);
     used = λ e. cc;
+    corrected = λ e. cc;
     sizes = sizes;
     sink = λ e. cc;
   };
@@ -128,6 +128,7 @@ stopped_by job old new (Some image) is stopped named sizes =
         fault = λ e. absurd (not_whole meant DiskFault whole (λ none. none) e);
         usage = λ none. absurd (named none);
         used = λ e. absurd (not_whole meant Usage whole (λ none. none) e);
+        corrected = λ e. absurd (not_whole meant Corrected whole (λ none. none) e);
         sizes = sizes_whole job old.size image whole sizes;
         sink = λ e. not_whole meant SinkFault whole (λ none. none) e;
       };

@@ -1,4 +1,5 @@
 pub mod Answers
+pub mod Disks
 pub mod Features
 pub mod Jobs
 pub mod Numbers

@@ -55,6 +55,7 @@ abbrev pub has_hyphens : List ℕ → Bool
 has_hyphens text = length text == 36
     && (slice_index text 8 == 45 && (slice_index text 13 == 45 && (slice_index text 18 == 45 && slice_index text 23 == 45)))
 
--- the bytes of the uuid that a text writes: 32 hexadecimal digits, in groups of 8, 4, 4, 4 and 12 with hyphens between them
+-- the bytes of the uuid that a text writes: 32 hexadecimal digits, in groups of 8, 4, 4, 4 and 12 with hyphens between
+-- them
 unfoldable pub uuid_of : List ℕ → Option (List ℕ)
 uuid_of text = if has_hyphens text then uuid_bytes text 0 16 else None

@@ -9,6 +9,7 @@ use Rattle.f2_commit.specs.Moves.{HasSameFiles}
 use Rattle.f2_reloc.specs.Emptying.{IsEmptied, end_of}
 use Rattle.f2_reloc.specs.declared.batches.Range.{Range}
 use Rattle.f2_commit.specs.declared.relocating.Moved.{Moved}
+use Rattle.f2_top.specs.Disks.{OnImage, TellsOne}
 use Rattle.f2_top.specs.Text.{defect_lines, moved_line}
 use Rattle.f2_top.specs.declared.answer.Answer.{Answer}
 use Rattle.f2_top.specs.declared.answer.Answer.TheVariants.{Done, Defects, NoSpace, Refused}
@@ -73,13 +74,17 @@ LeavesEmptied image a answer left = left ≡ image
 
 -- a disk that told a checked image tells one with the same tree and the same superblock copies
 abbrev pub KeepsTree : State → State → Type 0
-KeepsTree old new = (image : Image) → old.told ≡ Some image → IsTrue (is_checked image) → (now : Image) × (new.told ≡ Some now) × HasSameFiles image now
+KeepsTree old new = OnImage old (λ image. IsTrue (is_checked image) → TellsOne new (HasSameFiles image))
 
 -- Where nothing was pending, a crash at any moment since then leaves such a one.
 abbrev pub KeepsTreeAlways : State → State → Type 0
 KeepsTreeAlways old new =
-    old.pending ≡ false → (image : Image) → old.told ≡ Some image → IsTrue (is_checked image) → LeavesOnly old new (HasSameFiles image)
+    old.pending ≡ false → OnImage old (λ image. IsTrue (is_checked image) → LeavesOnly old new (HasSameFiles image))
+
+-- no block of a range is valid
+abbrev pub HasNoneIn : Image → ℕ → ℕ → Type 0
+HasNoneIn image start end = (address : ℕ) → start ≤ address → address < end → IsFalse (is_marked image address)
 
 -- no block of a range is valid, or the image is not checked, so that nothing moves
 abbrev pub HasNone : Image → Aim → Type 0
-HasNone image a = IsFalse (is_checked image) ⊎ ((address : ℕ) → a.start ≤ address → address < a.end → IsFalse (is_marked image address))
+HasNone image a = IsFalse (is_checked image) ⊎ HasNoneIn image a.start a.end

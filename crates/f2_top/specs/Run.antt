@@ -24,9 +24,10 @@ use Rattle.f2_mkfs.specs.NewImage.{IsNew}
 use Rattle.f2_mkfs.specs.declared.formatting.FormatRefusal.{FormatRefusal}
 use Rattle.f2_mkfs.specs.declared.formatting.FormatRefusal.TheVariants as new
 use Rattle.f2_mkfs.specs.declared.formatting.Options.{Options}
+use Rattle.f2_top.specs.Disks.{OnImage, TellsOne}
 use Rattle.f2_top.specs.Jobs.{options_of}
-use Rattle.f2_top.specs.Ranges.{aim_of, outside_aim, space_answer, unless_failing, unless_outside, lines_unless_failing, moves_line, LeavesEmptied, HasNone}
-use Rattle.f2_top.specs.Text.{IsText, defect_line, defect_lines, size_line}
+use Rattle.f2_top.specs.Ranges.{Aim, aim_of, outside_aim, space_answer, unless_failing, unless_outside, lines_unless_failing, moves_line, LeavesEmptied, HasNone}
+use Rattle.f2_top.specs.Text.{IsText, defect_line, defect_lines, lines_if_done, size_line}
 use Rattle.f2_top.specs.declared.answer.Answer.{Answer}
 use Rattle.f2_top.specs.declared.answer.Answer.TheVariants.{Done, Corrected, Defects, DiskFault, SinkFault, Usage, Refused, NoMemory}
 use Rattle.f2_top.specs.declared.answer.Refusal.TheVariants.{NoSuper, Unsupported, TooLarge, Truncated, NoPack, VersionLimit, BadSummary, DeviceTooSmall, TooSmall, OutOfRange, NoSuchNode, Exists}
@@ -85,7 +86,8 @@ abbrev pub verdict_answer : Image → Option ℕ → Answer
 verdict_answer image None = Done
 verdict_answer image (Some rule) = Defects rule (length (defects image rule))
 
--- and its lines: those of an image without defects, which are those of the tree where that is asked for, or of its defects
+-- and its lines: those of an image without defects, which are those of the tree where that is asked for, or of its
+-- defects
 abbrev pub clean_lines : Bool → Image → List ℕ
 clean_lines with_tree image = if with_tree then tree_lines image else []
 
@@ -111,15 +113,21 @@ abbrev pub checked_lines : Bool → Image → Result Mounted MountRefusal → Li
 checked_lines with_tree image (Ok m) = verdict_lines with_tree image (least_failing image)
 checked_lines with_tree image (Err refusal) = []
 
--- what emptying a range answers to what was mounted of an image, without a fault
+-- what emptying a range of an image answers, without a fault, and its lines
+abbrev pub emptying_answer : Image → Aim → Answer
+emptying_answer image a = unless_failing image (least_failing image) (space_answer image a)
+
+abbrev pub emptying_lines : Image → Aim → List ℕ
+emptying_lines image a = lines_unless_failing image (least_failing image) (moves_line image a)
+
+-- what words for it answer to what was mounted of an image, without a fault
 abbrev pub move_answer : Wish → Image → Result Mounted MountRefusal → Answer
-move_answer w image (Ok m) =
-    unless_outside (outside_aim (layout_in m) w) (unless_failing image (least_failing image) (space_answer image (aim_of (layout_in m) w)))
+move_answer w image (Ok m) = unless_outside (outside_aim (layout_in m) w) (emptying_answer image (aim_of (layout_in m) w))
 move_answer w image (Err refusal) = mount_answer refusal
 
 -- its lines
 abbrev pub move_lines : Wish → Image → Result Mounted MountRefusal → List ℕ
-move_lines w image (Ok m) = lines_unless_failing image (least_failing image) (moves_line image (aim_of (layout_in m) w))
+move_lines w image (Ok m) = emptying_lines image (aim_of (layout_in m) w)
 move_lines w image (Err refusal) = []
 
 -- and what it leaves of the image
@@ -151,8 +159,8 @@ abbrev pub LeavesNew : Options → Result Geometry FormatRefusal → Image → I
 LeavesNew o (Ok g) image left = IsNew o g left
 LeavesNew o (Err refusal) image left = left ≡ image
 
--- What it answers on every disk: by its sizes, unless it is refused for what the disk holds, or ended early. A fault of the
--- sink comes where it would have been done.
+-- What it answers on every disk: by its sizes, unless it is refused for what the disk holds, or ended early. A fault of
+-- the sink comes where it would have been done.
 abbrev pub FitsSizes : Result Geometry FormatRefusal → Answer → Type 0
 FitsSizes sizes (Refused Exists) = Unit {0}
 FitsSizes sizes DiskFault = Unit {0}
@@ -183,17 +191,21 @@ Leaves job moment id size image left = left ≡ image
 abbrev pub IsLeft : Option Job → ℕ → List ℕ → ℕ → Image → Option Image → Type 0
 IsLeft job moment id size image told = (left : Image) × (told ≡ Some left) × Leaves job moment id size image left
 
--- A job's lines, and before them those that it may have put where it ended early: of a check none but the tree's, of a
--- dump all, and none of a job that writes. A check's and a dump's are those of an image, which the disk then has to tell, and
--- so is what moved; a new image's say its sizes.
+-- A job's lines, and before them those that it may have put where it ended early: of a check and of a dump none but
+-- where it would have been done, and none of a job that writes. A check's and a dump's are those of an image, which the
+-- disk then has to tell, and so is what moved; a new image's say its sizes.
 abbrev pub AreLines : Option Job → State → List ℕ → List ℕ → Type 0
-AreLines (Some Check) old early lines = (image : Image) × (old.told ≡ Some image) × (early ≡ clean_lines false image) × (lines ≡ checked_lines false image (mounted old.size image))
-AreLines (Some Tree) old early lines = (image : Image) × (old.told ≡ Some image) × (early ≡ clean_lines true image) × (lines ≡ checked_lines true image (mounted old.size image))
-AreLines (Some (Dump what)) old early lines = (image : Image) × (old.told ≡ Some image) × (early ≡ lines) × (lines ≡ mounted_lines what image (mounted old.size image))
-AreLines (Some (Defrag start blocks target down)) old early lines =
-    (image : Image) × (old.told ≡ Some image) × (early ≡ []) × (lines ≡ move_lines (wish_of start blocks target down) image (mounted old.size image))
-AreLines (Some (Mkfs sectors label uuid second features force)) old early lines = (early ≡ []) × (lines ≡ new_lines (size_answer old.size sectors))
-AreLines job old early lines = (early ≡ []) × (lines ≡ [])
+AreLines (Some Check) old early lines = TellsOne old (λ image. let mount = mounted old.size image in
+    (lines ≡ checked_lines false image mount) × (early ≡ lines_if_done (check_answer image mount) lines))
+AreLines (Some Tree) old early lines = TellsOne old (λ image. let mount = mounted old.size image in
+    (lines ≡ checked_lines true image mount) × (early ≡ lines_if_done (check_answer image mount) lines))
+AreLines (Some (Dump what)) old early lines = TellsOne old (λ image. let mount = mounted old.size image in
+    (lines ≡ mounted_lines what image mount) × (early ≡ lines_if_done (dump_answer what image mount) lines))
+AreLines (Some (Defrag start blocks target down)) old early lines = TellsOne old (λ image.
+    (lines ≡ move_lines (wish_of start blocks target down) image (mounted old.size image)) × (early ≡ []))
+AreLines (Some (Mkfs sectors label uuid second features force)) old early lines =
+    (lines ≡ new_lines (size_answer old.size sectors)) × (early ≡ [])
+AreLines job old early lines = (lines ≡ []) × (early ≡ [])
 
 -- a job that makes an image answers by its sizes, also on a disk that tells nothing
 abbrev pub AreSizes : Option Job → ℕ → Answer → Type 0
@@ -208,12 +220,14 @@ MovesNone job image = ⊥
 -- What a job may answer, but for a fault of the sink.
 pub record Allowed (job : Option Job) (old new : State) (answer : Answer) : Type 0 where
   -- exactly which answer, where the disk tells its blocks
-  pub exact : (image : Image) → old.told ≡ Some image → (answer ≡ answer_of job old.size image) ⊎ ((answer ≡ DiskFault) ⊎ (answer ≡ NoMemory))
+  pub exact : OnImage old (λ image. (answer ≡ answer_of job old.size image) ⊎ ((answer ≡ DiskFault) ⊎ (answer ≡ NoMemory)))
   -- a fault only where the disk had one
   pub fault : answer ≡ DiskFault → Rose old.faults new.faults
   -- Usage where the words name no job, unless memory was short, and only there, on every disk
   pub usage : job ≡ None → (answer ≡ Usage) ⊎ (answer ≡ NoMemory)
   pub used : answer ≡ Usage → job ≡ None
+  -- Corrected of the job that repairs the superblock copies alone
+  pub corrected : answer ≡ Corrected → job ≡ Some Super
   -- the sizes of a new image, on every disk
   pub sizes : AreSizes job old.size answer
   pub sink : answer ≢ SinkFault
@@ -223,9 +237,11 @@ abbrev pub IsAnswered : Option Job → ℕ → Image → Answer → Type 0
 IsAnswered job size image answer =
     (answer ≡ NoMemory) ⊎ ((answer ≡ answer_of job size image) × (job ≡ Some Super → is_loadable image ≡ true → answer ≡ (if has_twins image then Done else Corrected)))
 
--- What a sink tells that held these bytes before: the text of the answer, or, where the sink failed, a prefix of the text
--- of an answer that was allowed.
+-- What a sink tells that held these bytes before: the text of the answer, or, where the sink failed, a prefix of the
+-- text of an answer that was allowed.
 abbrev pub Printed : Option Job → List ℕ → List ℕ → State → State → Answer → List ℕ → Option (List ℕ) → Type 0
 Printed job early lines old new SinkFault had told =
-    (answer : Answer) × Allowed job old new answer × (text : List ℕ) × IsText job early lines answer text × (n : ℕ) × (told ≡ Some (had ++ take n text))
-Printed job early lines old new answer had told = (text : List ℕ) × IsText job early lines answer text × (told ≡ Some (had ++ text))
+    (answer : Answer) × Allowed job old new answer
+    × (text : List ℕ) × IsText job early lines answer text × (n : ℕ) × (told ≡ Some (had ++ take n text))
+Printed job early lines old new answer had told =
+    (text : List ℕ) × IsText job early lines answer text × (told ≡ Some (had ++ text))

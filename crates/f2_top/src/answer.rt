@@ -43,8 +43,8 @@ pub enum Refusal {
     DeviceTooSmall { blocks: u64, held: u64 },
     /// The new image would have `main` main segments, fewer than the `least` ones that there must be.
     TooSmall { main: u64, least: u64 },
-    /// This number is at or past the limit of what can be dumped of the image, or is the first of a range and lies above
-    /// its last.
+    /// This number is at or past the limit of what can be dumped of the image, or is the first of a range and lies
+    /// above its last.
     OutOfRange(u64),
     /// The image has no inode with this number, or its bytes are asked for and it is no regular file or symbolic link.
     NoSuchNode(u32),

@@ -1,14 +1,15 @@
 // The jobs that check an image.
-ghost use Rattle.std.specs.Prelude.{◌≡◌, ◌≢◌, ◌≤◌, ◌⊎◌, ◌++◌, List, ℕ, Some, None, IfOk, OnOk, flat_map, map};
+ghost use Rattle.std.specs.Prelude.{◌≡◌, ◌≢◌, ◌≤◌, ◌⊎◌, ◌++◌, not, List, ℕ, Some, None, IfOk, OnOk, flat_map, map};
 ghost use Rattle.f2_bytes.specs.Bytes.{Image};
 ghost use Rattle.f2_defects.specs.Collected.{defect_in};
 ghost use Rattle.f2_disk.specs.Disk.{Reads, Goes, Rose};
 ghost use Rattle.f2_dump.specs.Trees.{tree_lines};
 ghost use Rattle.f2_view.specs.Mounted.{IsMountOf, layout_in};
 ghost use Rattle.f2_view.specs.Mounting.{mounted};
-ghost use Rattle.f2_top.specs.Answers.{IsWhole};
+ghost use Rattle.f2_top.specs.Answers.{AnswersOrEnds, IsLastAlone, IsWhole};
+ghost use Rattle.f2_top.specs.Disks.{OnImage};
 ghost use Rattle.f2_top.specs.Run.{least_failing, clean_lines, verdict_answer, verdict_lines, said_answer, said_lines, check_answer, checked_lines};
-ghost use Rattle.f2_top.specs.Text.{IsFront, defect_line};
+ghost use Rattle.f2_top.specs.Text.{Appends, IsFront, IsFrontOf, defect_line};
 
 use crate::Answer;
 use crate::mounts::refused;
@@ -52,8 +53,8 @@ pub fn put_defects<O: Sink>(
 ) -> Answer
     ensures kind { (result ≡ Answer.Defects rule count) ⊎ ((result ≡ Answer.NoMemory) ⊎ (result ≡ Answer.SinkFault)) }
     ensures sink { result ≡ Answer.SinkFault → Rose (O.faults out.old) (O.faults out.new) }
-    ensures lines { (had : List ℕ) → O.told out.old ≡ Some had → (early : List ℕ)
-        → (text : List ℕ) × IsFront early (flat_map (defect_line rule) (map defect_in list.now)) result text × (O.told out.new ≡ Some (had ++ text)) }
+    ensures lines { (early : List ℕ) → let lines = flat_map (defect_line rule) (map defect_in list.now) in
+        Appends (O.told out.old) (O.told out.new) (IsFront early lines result) }
     ensures sink_goes { O.faults out.old ≤ O.faults out.new }
 {
     match defect_text(alloc, rule, list) {
@@ -68,11 +69,11 @@ pub fn put_defects<O: Sink>(
 // Puts the lines of the tree.
 fn put_tree<D: Disk, O: Sink>(alloc: Global, m: &mut Mount, disk: &mut D, out: &mut O) -> Answer
     requires lies { (layout_in m.old).blocks ≤ (D.state disk.old).size }
-    ensures kind { (result ≡ Answer.Done) ⊎ ((result ≡ Answer.DiskFault) ⊎ ((result ≡ Answer.NoMemory) ⊎ (result ≡ Answer.SinkFault))) }
+    ensures kind { AnswersOrEnds Answer.Done result }
     ensures fault { result ≡ Answer.DiskFault → Rose (D.state disk.old).faults (D.state disk.new).faults }
     ensures sink { result ≡ Answer.SinkFault → Rose (O.faults out.old) (O.faults out.new) }
-    ensures lines { (had : List ℕ) → O.told out.old ≡ Some had → (image : Image) → (D.state disk.old).told ≡ Some image → IsMountOf image m.old
-        → (text : List ℕ) × IsFront (tree_lines image) (tree_lines image) result text × (O.told out.new ≡ Some (had ++ text)) }
+    ensures lines { OnImage (D.state disk.old) (λ image. IsMountOf image m.old
+        → Appends (O.told out.old) (O.told out.new) (IsFront (tree_lines image) (tree_lines image) result)) }
     ensures reads { Reads (D.state disk.old) (D.state disk.new) }
     ensures goes { Goes (D.state disk.old) (D.state disk.new) }
     ensures sink_goes { O.faults out.old ≤ O.faults out.new }
@@ -95,11 +96,12 @@ fn put_clean<D: Disk, O: Sink>(
     out: &mut O,
 ) -> Answer
     requires lies { (layout_in m.old).blocks ≤ (D.state disk.old).size }
-    ensures kind { (result ≡ Answer.Done) ⊎ ((result ≡ Answer.DiskFault) ⊎ ((result ≡ Answer.NoMemory) ⊎ (result ≡ Answer.SinkFault))) }
+    ensures kind { AnswersOrEnds Answer.Done result }
     ensures fault { result ≡ Answer.DiskFault → Rose (D.state disk.old).faults (D.state disk.new).faults }
     ensures sink { result ≡ Answer.SinkFault → Rose (O.faults out.old) (O.faults out.new) }
-    ensures lines { (had : List ℕ) → O.told out.old ≡ Some had → (image : Image) → (D.state disk.old).told ≡ Some image → IsMountOf image m.old
-        → (text : List ℕ) × IsFront (clean_lines tree image) (clean_lines tree image) result text × (O.told out.new ≡ Some (had ++ text)) }
+    ensures lines { OnImage (D.state disk.old) (λ image. IsMountOf image m.old → let lines = clean_lines tree image in
+        Appends (O.told out.old) (O.told out.new) (IsFront lines lines result)) }
+    ensures silent { IsLastAlone (not tree) result → O.told out.new ≡ O.told out.old }
     ensures reads { Reads (D.state disk.old) (D.state disk.new) }
     ensures goes { Goes (D.state disk.old) (D.state disk.new) }
     ensures sink_goes { O.faults out.old ≤ O.faults out.new }
@@ -121,12 +123,14 @@ pub fn put_verdict<D: Disk, O: Sink>(
     out: &mut O,
 ) -> Answer
     requires lies { (layout_in m.old).blocks ≤ (D.state disk.old).size }
-    ensures kind { (result ≡ said_answer verdict) ⊎ ((result ≡ Answer.DiskFault) ⊎ ((result ≡ Answer.NoMemory) ⊎ (result ≡ Answer.SinkFault))) }
+    ensures kind { AnswersOrEnds (said_answer verdict) result }
     ensures fault { result ≡ Answer.DiskFault → Rose (D.state disk.old).faults (D.state disk.new).faults }
     ensures sink { result ≡ Answer.SinkFault → Rose (O.faults out.old) (O.faults out.new) }
     ensures others { (result ≢ Answer.Usage) × (result ≢ Answer.Corrected) }
-    ensures lines { (had : List ℕ) → O.told out.old ≡ Some had → (image : Image) → (D.state disk.old).told ≡ Some image → IsMountOf image m.old
-        → (text : List ℕ) × IsFront (clean_lines tree image) (said_lines tree image verdict) result text × (O.told out.new ≡ Some (had ++ text)) }
+    ensures lines { OnImage (D.state disk.old) (λ image. IsMountOf image m.old
+        → let lines = said_lines tree image verdict in
+        Appends (O.told out.old) (O.told out.new) (IsFrontOf (said_answer verdict) lines result)) }
+    ensures silent { IsLastAlone (not tree) result → O.told out.new ≡ O.told out.old }
     ensures reads { Reads (D.state disk.old) (D.state disk.new) }
     ensures goes { Goes (D.state disk.old) (D.state disk.new) }
     ensures sink_goes { O.faults out.old ≤ O.faults out.new }
@@ -146,13 +150,15 @@ fn check_mounted<D: Disk, O: Sink>(
     out: &mut O,
 ) -> Answer
     requires lies { (layout_in m.old).blocks ≤ (D.state disk.old).size }
-    ensures exact { (image : Image) → (D.state disk.old).told ≡ Some image → IsMountOf image m.old
-        → (result ≡ verdict_answer image (least_failing image)) ⊎ ((result ≡ Answer.DiskFault) ⊎ ((result ≡ Answer.NoMemory) ⊎ (result ≡ Answer.SinkFault))) }
+    ensures exact { OnImage (D.state disk.old) (λ image. IsMountOf image m.old
+        → AnswersOrEnds (verdict_answer image (least_failing image)) result) }
     ensures fault { result ≡ Answer.DiskFault → Rose (D.state disk.old).faults (D.state disk.new).faults }
     ensures sink { result ≡ Answer.SinkFault → Rose (O.faults out.old) (O.faults out.new) }
     ensures others { (result ≢ Answer.Usage) × (result ≢ Answer.Corrected) }
-    ensures lines { (had : List ℕ) → O.told out.old ≡ Some had → (image : Image) → (D.state disk.old).told ≡ Some image → IsMountOf image m.old
-        → (text : List ℕ) × IsFront (clean_lines tree image) (verdict_lines tree image (least_failing image)) result text × (O.told out.new ≡ Some (had ++ text)) }
+    ensures lines { OnImage (D.state disk.old) (λ image. IsMountOf image m.old → let least = least_failing image in
+        let lines = verdict_lines tree image least in
+        Appends (O.told out.old) (O.told out.new) (IsFrontOf (verdict_answer image least) lines result)) }
+    ensures silent { IsLastAlone (not tree) result → O.told out.new ≡ O.told out.old }
     ensures reads { Reads (D.state disk.old) (D.state disk.new) }
     ensures goes { Goes (D.state disk.old) (D.state disk.new) }
     ensures sink_goes { O.faults out.old ≤ O.faults out.new }
@@ -164,20 +170,24 @@ fn check_mounted<D: Disk, O: Sink>(
     }
 }
 
-/// Mounts the image, checks it, and puts the lines of its defects, or of its tree where that is asked for and it has none.
+/// Mounts the image, checks it, and puts the lines of its defects, or of its tree where that is asked for and it has
+/// none.
 pub fn check_image<D: Disk, O: Sink>(alloc: Global, tree: bool, disk: &mut D, out: &mut O) -> Answer
     // Which answer it is.
-    ensures exact { (image : Image) → (D.state disk.old).told ≡ Some image
-        → (result ≡ check_answer image (mounted (D.state disk.old).size image)) ⊎ ((result ≡ Answer.DiskFault) ⊎ ((result ≡ Answer.NoMemory) ⊎ (result ≡ Answer.SinkFault))) }
-    ensures sink_fault { (image : Image) → (D.state disk.old).told ≡ Some image → result ≡ Answer.SinkFault
-        → IsWhole (check_answer image (mounted (D.state disk.old).size image)) }
+    ensures exact { OnImage (D.state disk.old) (λ image.
+        AnswersOrEnds (check_answer image (mounted (D.state disk.old).size image)) result) }
+    ensures sink_fault { OnImage (D.state disk.old) (λ image. result ≡ Answer.SinkFault
+        → IsWhole (check_answer image (mounted (D.state disk.old).size image))) }
     ensures fault { result ≡ Answer.DiskFault → Rose (D.state disk.old).faults (D.state disk.new).faults }
     ensures sink { result ≡ Answer.SinkFault → Rose (O.faults out.old) (O.faults out.new) }
     ensures others { (result ≢ Answer.Usage) × (result ≢ Answer.Corrected) }
 
     // The lines that it puts.
-    ensures lines { (had : List ℕ) → O.told out.old ≡ Some had → (image : Image) → (D.state disk.old).told ≡ Some image
-        → (text : List ℕ) × IsFront (clean_lines tree image) (checked_lines tree image (mounted (D.state disk.old).size image)) result text × (O.told out.new ≡ Some (had ++ text)) }
+    ensures lines { OnImage (D.state disk.old) (λ image. let mount = mounted (D.state disk.old).size image in
+        let lines = checked_lines tree image mount in
+        Appends (O.told out.old) (O.told out.new) (IsFrontOf (check_answer image mount) lines result)) }
+    // With these answers none, on every disk.
+    ensures silent { IsLastAlone (not tree) result → O.told out.new ≡ O.told out.old }
 
     // It reads alone.
     ensures reads { Reads (D.state disk.old) (D.state disk.new) }

@@ -19,8 +19,8 @@ pub enum Job {
         start: Option<u64>,
         /// How many addresses it has; 512 where none is given, or 0.
         blocks: Option<u64>,
-        /// The address from whose segment on free segments are taken; the end of the range where none is given, or with `down`
-        /// the address before it.
+        /// The address from whose segment on free segments are taken; the end of the range where none is given, or with
+        /// `down` the address before it.
         target: Option<u64>,
         /// They are taken downward.
         down: bool,

@@ -11,10 +11,11 @@ ghost use Rattle.f2_reloc.specs.Emptying.{end_of, IsInside, IsEmptied};
 ghost use Rattle.f2_commit.specs.declared.relocating.RelocRefusal.TheVariants.{NoSpace};
 ghost use Rattle.f2_view.specs.Mounted.{layout_in, IsMountOf};
 ghost use Rattle.f2_view.specs.Mounting.{mounted};
-ghost use Rattle.f2_top.specs.Answers.{IsSuccess, IsIdle, IsWhole};
-ghost use Rattle.f2_top.specs.Ranges.{aim_of, aim_at, outside_aim, space_answer, unless_failing, lines_unless_failing, moves_line, LeavesEmptied, HasNone, KeepsTree, KeepsTreeAlways};
-ghost use Rattle.f2_top.specs.Run.{least_failing, move_answer, move_lines, LeavesMoved};
-ghost use Rattle.f2_top.specs.Text.{IsFront, moved_line};
+ghost use Rattle.f2_top.specs.Answers.{AnswersOrEnds, IsIdle, IsLastAlone, IsWhole};
+ghost use Rattle.f2_top.specs.Disks.{IsSettled, OnImage, TellsOne};
+ghost use Rattle.f2_top.specs.Ranges.{aim_of, aim_at, outside_aim, space_answer, moves_line, LeavesEmptied, HasNone, HasNoneIn, KeepsTree, KeepsTreeAlways};
+ghost use Rattle.f2_top.specs.Run.{move_answer, move_lines, emptying_answer, emptying_lines, LeavesMoved};
+ghost use Rattle.f2_top.specs.Text.{Appends, IsFront, moved_line};
 
 use crate::checks::put_defects;
 use crate::mounts::refused;
@@ -90,7 +91,8 @@ fn target_of(range: Range, target: Option<u64>, down: bool) -> u64
 // A target that is none: it lies outside of the main area or in the range.
 fn is_outside(l: &Layout, range: Range, target: u64) -> bool
     requires fits { range.start + range.blocks < 2 ^ 64 }
-    ensures { result ≡ (nat_lt target l.now.main || nat_lt (area_end l.now) target || (nat_le range.start target && nat_lt target (range.start + range.blocks))) }
+    ensures { result ≡ (nat_lt target l.now.main || nat_lt (area_end l.now) target
+        || (nat_le range.start target && nat_lt target (range.start + range.blocks))) }
 {
     let inside = range.start <= target && target < range.start + range.blocks;
     target < u64::from(l.main) || main_end(l) < target || inside
@@ -121,8 +123,8 @@ fn aim(l: &Layout, wish: &Wish) -> Result<(Range, u64), u64>
 fn put_moves<O: Sink>(out: &mut O, moved: Moved) -> Answer
     ensures kind { (result ≡ Answer.Done) ⊎ (result ≡ Answer.SinkFault) }
     ensures sink { result ≡ Answer.SinkFault → Rose (O.faults out.old) (O.faults out.new) }
-    ensures lines { (had : List ℕ) → O.told out.old ≡ Some had → (early : List ℕ)
-        → (text : List ℕ) × IsFront early (moved_line moved.blocks moved.batches) result text × (O.told out.new ≡ Some (had ++ text)) }
+    ensures lines { (early : List ℕ)
+        → Appends (O.told out.old) (O.told out.new) (IsFront early (moved_line moved.blocks moved.batches) result) }
     ensures sink_goes { O.faults out.old ≤ O.faults out.new }
 {
     match put_moved(out, moved.blocks, moved.batches) {
@@ -144,15 +146,18 @@ fn move_range<D: Disk>(
     requires version { checkpoint_ver m.chosen.head < 2 ^ 62 }
     requires range { IsInside (layout_in m) range }
     requires target { ((layout_in m).main ≤ target) × (target ≤ area_end (layout_in m)) }
-    requires checked { (image : Image) → (D.state disk.old).told ≡ Some image → is_checked image ≡ true }
-    requires of_image { (image : Image) → (D.state disk.old).told ≡ Some image → IsMountOf image m }
-    ensures emptied { IfOk result (λ moved. (image : Image) → (D.state disk.old).told ≡ Some image
-        → (new : Image) × ((D.state disk.new).told ≡ Some new) × IsEmptied image range.start (end_of range) target down new moved) }
+    requires checked { OnImage (D.state disk.old) (λ image. is_checked image ≡ true) }
+    requires of_image { OnImage (D.state disk.old) (λ image. IsMountOf image m) }
+    ensures emptied { IfOk result (λ moved. OnImage (D.state disk.old) (λ image.
+        TellsOne (D.state disk.new) (λ new. IsEmptied image range.start (end_of range) target down new moved))) }
     ensures durable { (D.state disk.old).pending ≡ false → IfOk result (λ _. (D.state disk.new).pending ≡ false) }
-    ensures idle { (image : Image) → (D.state disk.old).told ≡ Some image → ((a : ℕ) → range.start ≤ a → a < end_of range → IsFalse (is_marked image a)) → Reads (D.state disk.old) (D.state disk.new) }
-    ensures no_space { (need have : ℕ) → result ≡ Err (NoSpace need have) → (image : Image) → (D.state disk.old).told ≡ Some image
-        → (need ≡ defrag_need image range.start (end_of range)) × (have ≡ defrag_have image range.start (end_of range) target down) × (have < need) }
-    ensures unwritten { (need have : ℕ) → result ≡ Err (NoSpace need have) → Reads (D.state disk.old) (D.state disk.new) }
+    ensures idle { OnImage (D.state disk.old) (λ image. HasNoneIn image range.start (end_of range)
+        → Reads (D.state disk.old) (D.state disk.new)) }
+    ensures no_space { (need have : ℕ) → result ≡ Err (NoSpace need have) → OnImage (D.state disk.old) (λ image.
+        (need ≡ defrag_need image range.start (end_of range))
+        × (have ≡ defrag_have image range.start (end_of range) target down) × (have < need)) }
+    ensures unwritten { (need have : ℕ) → result ≡ Err (NoSpace need have)
+        → Reads (D.state disk.old) (D.state disk.new) }
     ensures either { KeepsTree (D.state disk.old) (D.state disk.new) }
     ensures any_moment { KeepsTreeAlways (D.state disk.old) (D.state disk.new) }
     ensures goes { Goes (D.state disk.old) (D.state disk.new) }
@@ -176,22 +181,25 @@ fn empty_checked<D: Disk, O: Sink>(
     requires version { checkpoint_ver m.chosen.head < 2 ^ 62 }
     requires range { IsInside (layout_in m) range }
     requires target { ((layout_in m).main ≤ target) × (target ≤ area_end (layout_in m)) }
-    requires checked { (image : Image) → (D.state disk.old).told ≡ Some image → is_checked image ≡ true }
-    requires of_image { (image : Image) → (D.state disk.old).told ≡ Some image → IsMountOf image m }
-    ensures exact { (image : Image) → (D.state disk.old).told ≡ Some image
-        → (result ≡ space_answer image (aim_at range target down)) ⊎ ((result ≡ Answer.DiskFault) ⊎ ((result ≡ Answer.NoMemory) ⊎ (result ≡ Answer.SinkFault))) }
-    ensures sink_fault { (image : Image) → (D.state disk.old).told ≡ Some image → result ≡ Answer.SinkFault
-        → space_answer image (aim_at range target down) ≡ Answer.Done }
+    requires checked { OnImage (D.state disk.old) (λ image. is_checked image ≡ true) }
+    requires of_image { OnImage (D.state disk.old) (λ image. IsMountOf image m) }
+    ensures exact { OnImage (D.state disk.old) (λ image.
+        AnswersOrEnds (space_answer image (aim_at range target down)) result) }
+    ensures sink_fault { OnImage (D.state disk.old) (λ image. result ≡ Answer.SinkFault
+        → space_answer image (aim_at range target down) ≡ Answer.Done) }
     ensures fault { result ≡ Answer.DiskFault → Rose (D.state disk.old).faults (D.state disk.new).faults }
     ensures sink { result ≡ Answer.SinkFault → Rose (O.faults out.old) (O.faults out.new) }
     ensures others { (result ≢ Answer.Usage) × (result ≢ Answer.Corrected) }
-    ensures lines { (had : List ℕ) → O.told out.old ≡ Some had → (image : Image) → (D.state disk.old).told ≡ Some image
-        → (text : List ℕ) × IsFront [] (moves_line image (aim_at range target down)) result text × (O.told out.new ≡ Some (had ++ text)) }
-    ensures image { (image : Image) → (D.state disk.old).told ≡ Some image → result ≢ Answer.DiskFault → result ≢ Answer.NoMemory
-        → (left : Image) × ((D.state disk.new).told ≡ Some left) × LeavesEmptied image (aim_at range target down) (space_answer image (aim_at range target down)) left }
+    ensures lines { OnImage (D.state disk.old) (λ image.
+        Appends (O.told out.old) (O.told out.new) (IsFront [] (moves_line image (aim_at range target down)) result)) }
+    ensures silent { IsLastAlone false result → O.told out.new ≡ O.told out.old }
+    ensures image { OnImage (D.state disk.old) (λ image. result ≢ Answer.DiskFault → result ≢ Answer.NoMemory
+        → let aim = aim_at range target down in
+        TellsOne (D.state disk.new) (LeavesEmptied image aim (space_answer image aim))) }
     ensures idle { IsIdle false true result → Reads (D.state disk.old) (D.state disk.new) }
-    ensures none { (image : Image) → (D.state disk.old).told ≡ Some image → HasNone image (aim_at range target down) → Reads (D.state disk.old) (D.state disk.new) }
-    ensures durable { IsSuccess result → (D.state disk.old).pending ≡ false → (D.state disk.new).pending ≡ false }
+    ensures none { OnImage (D.state disk.old) (λ image. HasNone image (aim_at range target down)
+        → Reads (D.state disk.old) (D.state disk.new)) }
+    ensures durable { IsSettled result (D.state disk.old) (D.state disk.new) }
     ensures either { KeepsTree (D.state disk.old) (D.state disk.new) }
     ensures any_moment { KeepsTreeAlways (D.state disk.old) (D.state disk.new) }
     ensures goes { Goes (D.state disk.old) (D.state disk.new) }
@@ -220,24 +228,26 @@ fn empty_if_clean<D: Disk, O: Sink>(
     requires version { checkpoint_ver m.chosen.head < 2 ^ 62 }
     requires range { IsInside (layout_in m) range }
     requires target { ((layout_in m).main ≤ target) × (target ≤ area_end (layout_in m)) }
-    requires readable { (image : Image) → (D.state disk.old).told ≡ Some image → is_readable image ≡ true }
-    requires verdict { (image : Image) → (D.state disk.old).told ≡ Some image → IsVerdict image 1 verdict }
-    requires of_image { (image : Image) → (D.state disk.old).told ≡ Some image → IsMountOf image m }
-    ensures exact { (image : Image) → (D.state disk.old).told ≡ Some image
-        → (result ≡ unless_failing image (least_failing image) (space_answer image (aim_at range target down))) ⊎ ((result ≡ Answer.DiskFault) ⊎ ((result ≡ Answer.NoMemory) ⊎ (result ≡ Answer.SinkFault))) }
-    ensures sink_fault { (image : Image) → (D.state disk.old).told ≡ Some image → result ≡ Answer.SinkFault
-        → IsWhole (unless_failing image (least_failing image) (space_answer image (aim_at range target down))) }
+    requires readable { OnImage (D.state disk.old) (λ image. is_readable image ≡ true) }
+    requires verdict { OnImage (D.state disk.old) (λ image. IsVerdict image 1 verdict) }
+    requires of_image { OnImage (D.state disk.old) (λ image. IsMountOf image m) }
+    ensures exact { OnImage (D.state disk.old) (λ image.
+        AnswersOrEnds (emptying_answer image (aim_at range target down)) result) }
+    ensures sink_fault { OnImage (D.state disk.old) (λ image. result ≡ Answer.SinkFault
+        → IsWhole (emptying_answer image (aim_at range target down))) }
     ensures fault { result ≡ Answer.DiskFault → Rose (D.state disk.old).faults (D.state disk.new).faults }
     ensures sink { result ≡ Answer.SinkFault → Rose (O.faults out.old) (O.faults out.new) }
     ensures others { (result ≢ Answer.Usage) × (result ≢ Answer.Corrected) }
-    ensures lines { (had : List ℕ) → O.told out.old ≡ Some had → (image : Image) → (D.state disk.old).told ≡ Some image
-        → (text : List ℕ) × IsFront [] (lines_unless_failing image (least_failing image) (moves_line image (aim_at range target down))) result text × (O.told out.new ≡ Some (had ++ text)) }
-    ensures image { (image : Image) → (D.state disk.old).told ≡ Some image → result ≢ Answer.DiskFault → result ≢ Answer.NoMemory
-        → (left : Image) × ((D.state disk.new).told ≡ Some left)
-        × LeavesEmptied image (aim_at range target down) (unless_failing image (least_failing image) (space_answer image (aim_at range target down))) left }
+    ensures lines { OnImage (D.state disk.old) (λ image. let lines = emptying_lines image (aim_at range target down) in
+        Appends (O.told out.old) (O.told out.new) (IsFront [] lines result)) }
+    ensures silent { IsLastAlone false result → O.told out.new ≡ O.told out.old }
+    ensures image { OnImage (D.state disk.old) (λ image. result ≢ Answer.DiskFault → result ≢ Answer.NoMemory
+        → let aim = aim_at range target down in
+        TellsOne (D.state disk.new) (LeavesEmptied image aim (emptying_answer image aim))) }
     ensures idle { IsIdle false true result → Reads (D.state disk.old) (D.state disk.new) }
-    ensures none { (image : Image) → (D.state disk.old).told ≡ Some image → HasNone image (aim_at range target down) → Reads (D.state disk.old) (D.state disk.new) }
-    ensures durable { IsSuccess result → (D.state disk.old).pending ≡ false → (D.state disk.new).pending ≡ false }
+    ensures none { OnImage (D.state disk.old) (λ image. HasNone image (aim_at range target down)
+        → Reads (D.state disk.old) (D.state disk.new)) }
+    ensures durable { IsSettled result (D.state disk.old) (D.state disk.new) }
     ensures either { KeepsTree (D.state disk.old) (D.state disk.new) }
     ensures any_moment { KeepsTreeAlways (D.state disk.old) (D.state disk.new) }
     ensures goes { Goes (D.state disk.old) (D.state disk.new) }
@@ -263,23 +273,25 @@ fn empty_mounted<D: Disk, O: Sink>(
     requires version { checkpoint_ver m.chosen.head < 2 ^ 62 }
     requires range { IsInside (layout_in m) range }
     requires target { ((layout_in m).main ≤ target) × (target ≤ area_end (layout_in m)) }
-    requires readable { (image : Image) → (D.state disk.old).told ≡ Some image → is_readable image ≡ true }
-    requires of_image { (image : Image) → (D.state disk.old).told ≡ Some image → IsMountOf image m }
-    ensures exact { (image : Image) → (D.state disk.old).told ≡ Some image
-        → (result ≡ unless_failing image (least_failing image) (space_answer image (aim_at range target down))) ⊎ ((result ≡ Answer.DiskFault) ⊎ ((result ≡ Answer.NoMemory) ⊎ (result ≡ Answer.SinkFault))) }
-    ensures sink_fault { (image : Image) → (D.state disk.old).told ≡ Some image → result ≡ Answer.SinkFault
-        → IsWhole (unless_failing image (least_failing image) (space_answer image (aim_at range target down))) }
+    requires readable { OnImage (D.state disk.old) (λ image. is_readable image ≡ true) }
+    requires of_image { OnImage (D.state disk.old) (λ image. IsMountOf image m) }
+    ensures exact { OnImage (D.state disk.old) (λ image.
+        AnswersOrEnds (emptying_answer image (aim_at range target down)) result) }
+    ensures sink_fault { OnImage (D.state disk.old) (λ image. result ≡ Answer.SinkFault
+        → IsWhole (emptying_answer image (aim_at range target down))) }
     ensures fault { result ≡ Answer.DiskFault → Rose (D.state disk.old).faults (D.state disk.new).faults }
     ensures sink { result ≡ Answer.SinkFault → Rose (O.faults out.old) (O.faults out.new) }
     ensures others { (result ≢ Answer.Usage) × (result ≢ Answer.Corrected) }
-    ensures lines { (had : List ℕ) → O.told out.old ≡ Some had → (image : Image) → (D.state disk.old).told ≡ Some image
-        → (text : List ℕ) × IsFront [] (lines_unless_failing image (least_failing image) (moves_line image (aim_at range target down))) result text × (O.told out.new ≡ Some (had ++ text)) }
-    ensures image { (image : Image) → (D.state disk.old).told ≡ Some image → result ≢ Answer.DiskFault → result ≢ Answer.NoMemory
-        → (left : Image) × ((D.state disk.new).told ≡ Some left)
-        × LeavesEmptied image (aim_at range target down) (unless_failing image (least_failing image) (space_answer image (aim_at range target down))) left }
+    ensures lines { OnImage (D.state disk.old) (λ image. let lines = emptying_lines image (aim_at range target down) in
+        Appends (O.told out.old) (O.told out.new) (IsFront [] lines result)) }
+    ensures silent { IsLastAlone false result → O.told out.new ≡ O.told out.old }
+    ensures image { OnImage (D.state disk.old) (λ image. result ≢ Answer.DiskFault → result ≢ Answer.NoMemory
+        → let aim = aim_at range target down in
+        TellsOne (D.state disk.new) (LeavesEmptied image aim (emptying_answer image aim))) }
     ensures idle { IsIdle false true result → Reads (D.state disk.old) (D.state disk.new) }
-    ensures none { (image : Image) → (D.state disk.old).told ≡ Some image → HasNone image (aim_at range target down) → Reads (D.state disk.old) (D.state disk.new) }
-    ensures durable { IsSuccess result → (D.state disk.old).pending ≡ false → (D.state disk.new).pending ≡ false }
+    ensures none { OnImage (D.state disk.old) (λ image. HasNone image (aim_at range target down)
+        → Reads (D.state disk.old) (D.state disk.new)) }
+    ensures durable { IsSettled result (D.state disk.old) (D.state disk.new) }
     ensures either { KeepsTree (D.state disk.old) (D.state disk.new) }
     ensures any_moment { KeepsTreeAlways (D.state disk.old) (D.state disk.new) }
     ensures goes { Goes (D.state disk.old) (D.state disk.new) }
@@ -301,24 +313,27 @@ pub fn empty_range<D: Disk, O: Sink>(
     out: &mut O,
 ) -> Answer
     // Which answer it is.
-    ensures exact { (image : Image) → (D.state disk.old).told ≡ Some image
-        → (result ≡ move_answer wish.now image (mounted (D.state disk.old).size image)) ⊎ ((result ≡ Answer.DiskFault) ⊎ ((result ≡ Answer.NoMemory) ⊎ (result ≡ Answer.SinkFault))) }
-    ensures sink_fault { (image : Image) → (D.state disk.old).told ≡ Some image → result ≡ Answer.SinkFault
-        → IsWhole (move_answer wish.now image (mounted (D.state disk.old).size image)) }
+    ensures exact { OnImage (D.state disk.old) (λ image.
+        AnswersOrEnds (move_answer wish.now image (mounted (D.state disk.old).size image)) result) }
+    ensures sink_fault { OnImage (D.state disk.old) (λ image. result ≡ Answer.SinkFault
+        → IsWhole (move_answer wish.now image (mounted (D.state disk.old).size image))) }
     ensures fault { result ≡ Answer.DiskFault → Rose (D.state disk.old).faults (D.state disk.new).faults }
     ensures sink { result ≡ Answer.SinkFault → Rose (O.faults out.old) (O.faults out.new) }
     ensures others { (result ≢ Answer.Usage) × (result ≢ Answer.Corrected) }
 
     // The lines that it puts.
-    ensures lines { (had : List ℕ) → O.told out.old ≡ Some had → (image : Image) → (D.state disk.old).told ≡ Some image
-        → (text : List ℕ) × IsFront [] (move_lines wish.now image (mounted (D.state disk.old).size image)) result text × (O.told out.new ≡ Some (had ++ text)) }
+    ensures lines { OnImage (D.state disk.old) (λ image.
+        let mount = mounted (D.state disk.old).size image in
+        Appends (O.told out.old) (O.told out.new) (IsFront [] (move_lines wish.now image mount) result)) }
+    ensures silent { IsLastAlone false result → O.told out.new ≡ O.told out.old }
 
     // The image that it leaves.
-    ensures image { (image : Image) → (D.state disk.old).told ≡ Some image → result ≢ Answer.DiskFault → result ≢ Answer.NoMemory
-        → (left : Image) × ((D.state disk.new).told ≡ Some left) × LeavesMoved wish.now image (mounted (D.state disk.old).size image) left }
+    ensures image { OnImage (D.state disk.old) (λ image. result ≢ Answer.DiskFault → result ≢ Answer.NoMemory
+        → TellsOne (D.state disk.new) (LeavesMoved wish.now image (mounted (D.state disk.old).size image))) }
     ensures idle { IsIdle false true result → Reads (D.state disk.old) (D.state disk.new) }
-    ensures none { (image : Image) → (D.state disk.old).told ≡ Some image → HasNone image (aim_of (layout image) wish.now) → Reads (D.state disk.old) (D.state disk.new) }
-    ensures durable { IsSuccess result → (D.state disk.old).pending ≡ false → (D.state disk.new).pending ≡ false }
+    ensures none { OnImage (D.state disk.old) (λ image. HasNone image (aim_of (layout image) wish.now)
+        → Reads (D.state disk.old) (D.state disk.new)) }
+    ensures durable { IsSettled result (D.state disk.old) (D.state disk.new) }
 
     // Whatever it answers, and at any moment, a checked image stays one with the same tree.
     ensures either { KeepsTree (D.state disk.old) (D.state disk.new) }

@@ -5,9 +5,10 @@ ghost use Rattle.f2_disk.specs.Disk.{Reads, Goes, Rose};
 ghost use Rattle.f2_disk.specs.Sink.{Puts};
 ghost use Rattle.f2_super.specs.NewCopy.{HasProfile};
 ghost use Rattle.f2_mkfs.specs.Formatting.{size_answer, format_answer};
-ghost use Rattle.f2_top.specs.Answers.{IsSuccess, IsIdle};
+ghost use Rattle.f2_top.specs.Answers.{AnswersOrEnds, IsIdle, IsLastAlone};
+ghost use Rattle.f2_top.specs.Disks.{IsSettled, OnImage, TellsOne};
 ghost use Rattle.f2_top.specs.Run.{new_answer, new_lines, FitsSizes, LeavesNew};
-ghost use Rattle.f2_top.specs.Text.{IsFront, size_line};
+ghost use Rattle.f2_top.specs.Text.{Appends, IsFront, size_line};
 
 use crate::report::put_pair;
 use crate::{Answer, Refusal};
@@ -56,24 +57,26 @@ pub fn make_image<D: Disk, O: Sink>(
 ) -> Answer
     requires { HasProfile options.now.features }
     // Which answer it is.
-    ensures exact { (image : Image) → (D.state disk.old).told ≡ Some image
-        → (result ≡ new_answer (format_answer (D.state disk.old).size image options.now)) ⊎ ((result ≡ Answer.DiskFault) ⊎ ((result ≡ Answer.NoMemory) ⊎ (result ≡ Answer.SinkFault))) }
-    ensures sink_fault { (image : Image) → (D.state disk.old).told ≡ Some image → result ≡ Answer.SinkFault
-        → new_answer (format_answer (D.state disk.old).size image options.now) ≡ Answer.Done }
+    ensures exact { OnImage (D.state disk.old) (λ image.
+        AnswersOrEnds (new_answer (format_answer (D.state disk.old).size image options.now)) result) }
+    ensures sink_fault { OnImage (D.state disk.old) (λ image. result ≡ Answer.SinkFault
+        → new_answer (format_answer (D.state disk.old).size image options.now) ≡ Answer.Done) }
     ensures sizes { FitsSizes (size_answer (D.state disk.old).size options.now.sectors) result }
     ensures fault { result ≡ Answer.DiskFault → Rose (D.state disk.old).faults (D.state disk.new).faults }
     ensures sink { result ≡ Answer.SinkFault → Rose (O.faults out.old) (O.faults out.new) }
     ensures others { (result ≢ Answer.Usage) × (result ≢ Answer.Corrected) }
 
     // The line that it puts.
-    ensures lines { (had : List ℕ) → O.told out.old ≡ Some had
-        → (text : List ℕ) × IsFront [] (new_lines (size_answer (D.state disk.old).size options.now.sectors)) result text × (O.told out.new ≡ Some (had ++ text)) }
+    ensures lines { let sizes = size_answer (D.state disk.old).size options.now.sectors in
+        Appends (O.told out.old) (O.told out.new) (IsFront [] (new_lines sizes) result) }
+    ensures silent { IsLastAlone false result → O.told out.new ≡ O.told out.old }
 
     // The image that it leaves.
-    ensures image { (image : Image) → (D.state disk.old).told ≡ Some image → result ≢ Answer.DiskFault → result ≢ Answer.NoMemory
-        → (left : Image) × ((D.state disk.new).told ≡ Some left) × LeavesNew options.now (format_answer (D.state disk.old).size image options.now) image left }
+    ensures image { OnImage (D.state disk.old) (λ image. result ≢ Answer.DiskFault → result ≢ Answer.NoMemory
+        → let sizes = format_answer (D.state disk.old).size image options.now in
+        TellsOne (D.state disk.new) (LeavesNew options.now sizes image)) }
     ensures idle { IsIdle true false result → Reads (D.state disk.old) (D.state disk.new) }
-    ensures durable { IsSuccess result → (D.state disk.old).pending ≡ false → (D.state disk.new).pending ≡ false }
+    ensures durable { IsSettled result (D.state disk.old) (D.state disk.new) }
     ensures goes { Goes (D.state disk.old) (D.state disk.new) }
     ensures sink_goes { O.faults out.old ≤ O.faults out.new }
 {

@@ -15,7 +15,8 @@ fn put_number<O: Sink>(
     number: u64,
     after: &[u8],
 ) -> Result<(), SinkFault>
-    ensures { Puts (before.now ++ decimal number ++ after.now) (O.told out.old) (O.told out.new) (O.faults out.old) (O.faults out.new) result }
+    ensures { Puts (before.now ++ decimal number ++ after.now)
+        (O.told out.old) (O.told out.new) (O.faults out.old) (O.faults out.new) result }
 {
     let mut buffer = Buffer::new();
     out.put(before)?;
@@ -31,7 +32,8 @@ pub fn put_pair<O: Sink>(
     between: &[u8],
     second: u64,
 ) -> Result<(), SinkFault>
-    ensures { Puts (before.now ++ decimal first ++ between.now ++ decimal second ++ codes "\n") (O.told out.old) (O.told out.new) (O.faults out.old) (O.faults out.new) result }
+    ensures { Puts (before.now ++ decimal first ++ between.now ++ decimal second ++ codes "\n")
+        (O.told out.old) (O.told out.new) (O.faults out.old) (O.faults out.new) result }
 {
     put_number(out, before, first, between)?;
     put_number(out, b"", second, b"\n")
@@ -39,14 +41,16 @@ pub fn put_pair<O: Sink>(
 
 /// Puts the line of what moved.
 pub fn put_moved<O: Sink>(out: &mut O, blocks: u64, batches: u64) -> Result<(), SinkFault>
-    ensures { Puts (moved_line blocks batches) (O.told out.old) (O.told out.new) (O.faults out.old) (O.faults out.new) result }
+    ensures { Puts (moved_line blocks batches)
+        (O.told out.old) (O.told out.new) (O.faults out.old) (O.faults out.new) result }
 {
     put_number(out, b"moved ", blocks, b"")?;
     put_number(out, b" blocks in ", batches, b" batches\n")
 }
 
 fn put_refusal<O: Sink>(out: &mut O, refusal: &Refusal) -> Result<(), SinkFault>
-    ensures { Puts (refusal_line refusal.now) (O.told out.old) (O.told out.new) (O.faults out.old) (O.faults out.new) result }
+    ensures { Puts (refusal_line refusal.now)
+        (O.told out.old) (O.told out.new) (O.faults out.old) (O.faults out.new) result }
 {
     match refusal {
         Refusal::NoSuper => out.put(b"refused 1 NoSuper\n"),
@@ -80,7 +84,8 @@ fn put_refusal<O: Sink>(out: &mut O, refusal: &Refusal) -> Result<(), SinkFault>
 
 // Puts the last line of an answer. For `SinkFault` and `NoMemory` there is none.
 fn put_line<O: Sink>(out: &mut O, answer: &Answer) -> Result<(), SinkFault>
-    ensures line { Puts (last_line answer.now) (O.told out.old) (O.told out.new) (O.faults out.old) (O.faults out.new) result }
+    ensures line { Puts (last_line answer.now)
+        (O.told out.old) (O.told out.new) (O.faults out.old) (O.faults out.new) result }
     ensures none { answer.now ≡ Answer.NoMemory → IsOk result }
 {
     match answer {
@@ -99,7 +104,8 @@ fn put_line<O: Sink>(out: &mut O, answer: &Answer) -> Result<(), SinkFault>
 
 /// Puts the last line of a job's answer. A dump that is done has none.
 pub fn put_last<O: Sink>(out: &mut O, job: &Option<Job>, answer: &Answer) -> Result<(), SinkFault>
-    ensures line { Puts (last_of job.now answer.now) (O.told out.old) (O.told out.new) (O.faults out.old) (O.faults out.new) result }
+    ensures line { Puts (last_of job.now answer.now)
+        (O.told out.old) (O.told out.new) (O.faults out.old) (O.faults out.new) result }
     ensures none { answer.now ≡ Answer.NoMemory → IsOk result }
 {
     match (job, answer) {

@@ -5,6 +5,7 @@ ghost use Rattle.f2_bytes.specs.Superblock.{has_twins};
 ghost use Rattle.f2_disk.specs.Disk.{Reads, Goes, Rose};
 ghost use Rattle.f2_super.specs.Load.{loaded, KeepsSuper};
 ghost use Rattle.f2_top.specs.Answers.{IsSuccess, IsIdle};
+ghost use Rattle.f2_top.specs.Disks.{IsSettled, OnImage};
 ghost use Rattle.f2_top.specs.Run.{super_answer, super_image};
 
 use crate::{Answer, Refusal};
@@ -14,17 +15,17 @@ use f2_super::{SuperRefusal, load, repair};
 /// Rewrites the superblock copy that is bad or disagrees with the one that counts.
 pub fn repair_copies<D: Disk>(disk: &mut D) -> Answer
     // Which answer it is.
-    ensures exact { (image : Image) → (D.state disk.old).told ≡ Some image
-        → (result ≡ super_answer (loaded (D.state disk.old).size image)) ⊎ (result ≡ Answer.DiskFault) }
+    ensures exact { OnImage (D.state disk.old) (λ image.
+        (result ≡ super_answer (loaded (D.state disk.old).size image)) ⊎ (result ≡ Answer.DiskFault)) }
     ensures fault { result ≡ Answer.DiskFault → Rose (D.state disk.old).faults (D.state disk.new).faults }
     ensures others { (result ≢ Answer.Usage) × (result ≢ Answer.SinkFault) × (result ≢ Answer.NoMemory) }
 
     // The image that it leaves.
-    ensures image { (image : Image) → (D.state disk.old).told ≡ Some image → result ≢ Answer.DiskFault
-        → (D.state disk.new).told ≡ Some (super_image (loaded (D.state disk.old).size image) image) }
-    ensures twins { IsSuccess result → (image : Image) → (D.state disk.new).told ≡ Some image → has_twins image ≡ true }
+    ensures image { OnImage (D.state disk.old) (λ image. result ≢ Answer.DiskFault
+        → (D.state disk.new).told ≡ Some (super_image (loaded (D.state disk.old).size image) image)) }
+    ensures twins { IsSuccess result → OnImage (D.state disk.new) (λ image. has_twins image ≡ true) }
     ensures idle { IsIdle false false result → Reads (D.state disk.old) (D.state disk.new) }
-    ensures durable { IsSuccess result → (D.state disk.old).pending ≡ false → (D.state disk.new).pending ≡ false }
+    ensures durable { IsSettled result (D.state disk.old) (D.state disk.new) }
 
     // A crash at any moment leaves an image with the same superblock.
     ensures any_moment { KeepsSuper (D.state disk.old) (D.state disk.new) }

@@ -366,8 +366,8 @@ fn tool_job(alloc: Global, tool: &str, words: &[String]) -> Result<Job, WordsRef
     }
 }
 
-/// The job that the words name: those of the command line after the image, of which the first names the tool. It does nothing
-/// yet. `Usage` where they name none; `NoMemory` where there is too little to read them.
+/// The job that the words name: those of the command line after the image, of which the first names the tool. It does
+/// nothing yet. `Usage` where they name none; `NoMemory` where there is too little to read them.
 pub fn job(alloc: Global, words: &[String]) -> Result<Job, WordsRefusal>
     // Exactly that job, and Usage only where they name none.
     ensures names { Names (job_of (map string_bytes words.now)) result }

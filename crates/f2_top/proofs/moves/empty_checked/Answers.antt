@@ -1,13 +1,14 @@
 use Rattle.std.proofs.Common.{◌∙◌, List, [], ℕ, subst, inl}
 use Rattle.f2_top.specs.Ranges.{aim_at}
 use Rattle.f2_top.specs.Text.{IsFront}
+use Rattle.f2_top.proofs.Alone.{moves_have_lines}
 use Rattle.f2_top.proofs.Moving.{left_done, left_short, line_is, none_there, space_short}
 use Rattle.f2_top.proofs.moves.empty_checked.Goals as goal
 
 pub returns-in-Ok-clause-lines : goal.returns-in-Ok-clause-lines
-returns-in-Ok-clause-lines g c = λ had told image told'.
+returns-in-Ok-clause-lines g c = λ image told' had told.
     let all = c.in-Ok.ensures.emptied image told' in
-    let front = c.put_moves.ensures.lines had told [] in (
+    let front = c.put_moves.ensures.lines [] had told in (
       front.0,
       subst (λ (l : List ℕ). IsFront [] l c.put_moves.result front.0) (line_is image all.0 (aim_at c.args.range c.args.target c.args.down) c.in-Ok.moved all.2) front.1,
       front.2,
@@ -44,3 +45,6 @@ returns-in-Err-DiskFault-clause-none g c = λ image told none.
 pub returns-in-Err-NoMemory-clause-none : goal.returns-in-Err-NoMemory-clause-none
 returns-in-Err-NoMemory-clause-none g c = λ image told none.
     c.move_range.ensures.idle image told (none_there image (aim_at c.args.range c.args.target c.args.down) (c.requires.checked image told) none)
+
+pub returns-in-Ok-clause-silent : goal.returns-in-Ok-clause-silent
+returns-in-Ok-clause-silent g c = λ alone. absurd (moves_have_lines c.put_moves.result c.put_moves.ensures.kind alone)

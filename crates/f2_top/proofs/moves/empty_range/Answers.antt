@@ -31,12 +31,12 @@ returns-in-Ok-aim-clause-sink_fault g c = λ image told fault.
     subst IsWhole is (c.empty_mounted.ensures.sink_fault image (c.mount.ensures.reads.told ∙ told) fault)
 
 pub returns-in-Ok-aim-clause-lines : goal.returns-in-Ok-aim-clause-lines
-returns-in-Ok-aim-clause-lines g c = λ had told image told'.
+returns-in-Ok-aim-clause-lines g c = λ image told' had told.
     let w = c.args.wish.now in
     let none = subst (λ (l : Layout). outside_aim l w ≡ None) c.layout.ensures.value c.in-Ok-aim.ensures.none in
     let aim = c.in-Ok-aim.ensures.aim ∙ ap (λ (l : Layout). aim_of l w) c.layout.ensures.value in
     let are = range_lines w image c.in-Ok.m _ (aim_at c.in-Ok-aim.range c.in-Ok-aim.target w.down) (c.in-Ok.ensures.exact image told') none aim in
-    let front = c.empty_mounted.ensures.lines had told image (c.mount.ensures.reads.told ∙ told') in
+    let front = c.empty_mounted.ensures.lines image (c.mount.ensures.reads.told ∙ told') had told in
     (front.0, subst (λ (l : List ℕ). IsFront [] l c.empty_mounted.result front.0) are front.1, front.2)
 
 pub returns-in-Ok-aim-clause-image : goal.returns-in-Ok-aim-clause-image

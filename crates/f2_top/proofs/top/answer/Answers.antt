@@ -1,4 +1,5 @@
-use Rattle.std.proofs.Common.{◌≡◌, ◌∙◌, inl, Some, rules, sym, subst}
+use Rattle.std.proofs.Common.{◌≡◌, ◌∙◌, ℕ, List, ap, inl, Some, rules, sym, subst}
+use Rattle.f2_top.specs.Text.{lines_if_done}
 use Rattle.f2_top.specs.Answers.{IsWhole}
 use Rattle.f2_top.specs.Run.{AreLines, Leaves, MovesNone}
 use Rattle.f2_top.specs.declared.answer.Answer.{Answer}
@@ -13,28 +14,28 @@ done_whole : (answer : Answer) → answer ≡ Done → IsWhole answer
 done_whole answer is = subst IsWhole (sym is) tt
 
 pub returns-in-Some-Check-clause-lines : goal.returns-in-Some-Check-clause-lines
-returns-in-Some-Check-clause-lines g c = λ had told early lines are.
+returns-in-Some-Check-clause-lines g c = λ early lines are.
     let checks : c.args.job.now ≡ Some Check = search rules in
     let it = subst (λ j. AreLines j (g.D.Disk.state c.args.disk.now) early lines) checks are in
-    front_of early lines _ _ _ had _ it.2 it.3 (c.check_image.ensures.lines had told it.0 it.1)
+    front_of early lines _ _ _ _ _ (it.3 ∙ ap (λ (l : List ℕ). lines_if_done _ l) it.2) it.2 (c.check_image.ensures.lines it.0 it.1)
 
 pub returns-in-Some-Tree-clause-lines : goal.returns-in-Some-Tree-clause-lines
-returns-in-Some-Tree-clause-lines g c = λ had told early lines are.
+returns-in-Some-Tree-clause-lines g c = λ early lines are.
     let checks : c.args.job.now ≡ Some Tree = search rules in
     let it = subst (λ j. AreLines j (g.D.Disk.state c.args.disk.now) early lines) checks are in
-    front_of early lines _ _ _ had _ it.2 it.3 (c.check_image-in-Some-Tree.ensures.lines had told it.0 it.1)
+    front_of early lines _ _ _ _ _ (it.3 ∙ ap (λ (l : List ℕ). lines_if_done _ l) it.2) it.2 (c.check_image-in-Some-Tree.ensures.lines it.0 it.1)
 
 pub returns-in-Some-Dump-clause-lines : goal.returns-in-Some-Dump-clause-lines
-returns-in-Some-Dump-clause-lines g c = λ had told early lines are.
+returns-in-Some-Dump-clause-lines g c = λ early lines are.
     let dumps : c.args.job.now ≡ Some (Dump c.in-Some-Dump.what) = search rules in
     let it = subst (λ j. AreLines j (g.D.Disk.state c.args.disk.now) early lines) dumps are in
-    front_of early lines _ _ _ had _ (it.2 ∙ it.3) it.3 (c.dump_image.ensures.lines had told it.0 it.1)
+    front_of early lines _ _ _ _ _ (it.3 ∙ ap (λ (l : List ℕ). lines_if_done _ l) it.2) it.2 (c.dump_image.ensures.lines it.0 it.1)
 
 pub returns-in-Some-Defrag-clause-lines : goal.returns-in-Some-Defrag-clause-lines
-returns-in-Some-Defrag-clause-lines g c = λ had told early lines are.
+returns-in-Some-Defrag-clause-lines g c = λ early lines are.
     let moves : c.args.job.now ≡ Some (Defrag c.in-Some-Defrag.start c.in-Some-Defrag.blocks c.in-Some-Defrag.target c.in-Some-Defrag.down) = search rules in
     let it = subst (λ j. AreLines j (g.D.Disk.state c.args.disk.now) early lines) moves are in
-    front_of early lines _ _ _ had _ it.2 it.3 (c.empty_range.ensures.lines had told it.0 it.1)
+    front_of early lines _ _ _ _ _ it.3 it.2 (c.empty_range.ensures.lines it.0 it.1)
 
 pub returns-in-Some-Dump-clause-stopped : goal.returns-in-Some-Dump-clause-stopped
 returns-in-Some-Dump-clause-stopped g c = λ image told fault.
