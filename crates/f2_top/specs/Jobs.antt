@@ -42,4 +42,11 @@ HasKnownFeatures _ = Unit {0}
 -- what an image is to be that is made at this moment, with this uuid where none is given
 abbrev pub options_of : Option ℕ → List ℕ → Option (List ℕ) → Option ℕ → ℕ → Bool → ℕ → List ℕ → Options
 options_of sectors label uuid second features force moment id =
-    record { sectors = sectors; label = label; uuid = unwrap_or uuid id; second = unwrap_or second moment; features = features; force = force }
+    record {
+      sectors = sectors;
+      label = label;
+      uuid = unwrap_or uuid id;
+      second = unwrap_or second moment;
+      features = features;
+      force = force;
+    }

@@ -11,7 +11,8 @@ is_numeral base text = nat_lt 0 (length text) && list_all (λ b. nat_lt (digit_v
 
 -- the number that the digits write in this base, where it has at most 64 bits
 unfoldable pub numeral_of : ℕ → List ℕ → Option ℕ
-numeral_of base text = if is_numeral base text && nat_lt (digits_value base text) (2 ^ 64) then Some (digits_value base text) else None
+numeral_of base text =
+    if is_numeral base text && nat_lt (digits_value base text) (2 ^ 64) then Some (digits_value base text) else None
 
 -- the number that a text writes: hexadecimal digits after `0x`, or decimal ones
 unfoldable pub number_of : List ℕ → Option ℕ
@@ -32,7 +33,8 @@ is_tilde b = b == 126
 -- the range that a text writes: its first number, a tilde, and its last one
 unfoldable pub range_of : List ℕ → Option (ℕ × Option ℕ)
 range_of text =
-    option_and_then (λ first. option_map (λ last. (first, last)) (end_of (after_first is_tilde text))) (number_of (before_first is_tilde text))
+    option_and_then (λ first. option_map (λ last. (first, last)) (end_of (after_first is_tilde text)))
+    (number_of (before_first is_tilde text))
 
 -- the number that two hexadecimal digits write, of which the first stands at this place
 unfoldable pub pair_of : List ℕ → ℕ → Option ℕ
@@ -43,17 +45,21 @@ pair_of text at =
 
 -- the place of the digits of byte i of a uuid: a hyphen stands before bytes 4, 6, 8 and 10
 abbrev pub uuid_place : ℕ → ℕ
-uuid_place i = 2 * i + (if nat_lt i 4 then 0 else (if nat_lt i 6 then 1 else (if nat_lt i 8 then 2 else (if nat_lt i 10 then 3 else 4))))
+uuid_place i =
+    2 * i + (if nat_lt i 4 then 0 else (if nat_lt i 6 then 1 else (if nat_lt i 8 then 2 else (if nat_lt i 10 then 3
+    else 4))))
 
 -- the n bytes of a uuid from byte i on
 abbrev pub uuid_bytes : List ℕ → ℕ → ℕ → Option (List ℕ)
 uuid_bytes text i zero = Some []
-uuid_bytes text i (suc n) = option_and_then (λ b. option_map (λ bs. b ∷ bs) (uuid_bytes text (i + 1) n)) (pair_of text (uuid_place i))
+uuid_bytes text i (suc n) =
+    option_and_then (λ b. option_map (λ bs. b ∷ bs) (uuid_bytes text (i + 1) n)) (pair_of text (uuid_place i))
 
 -- a text of 36 characters, with hyphens behind 8, 4, 4 and 4 digits
 abbrev pub has_hyphens : List ℕ → Bool
 has_hyphens text = length text == 36
-    && (slice_index text 8 == 45 && (slice_index text 13 == 45 && (slice_index text 18 == 45 && slice_index text 23 == 45)))
+    && (slice_index text 8 == 45 && (slice_index text 13 == 45
+    && (slice_index text 18 == 45 && slice_index text 23 == 45)))
 
 -- the bytes of the uuid that a text writes: 32 hexadecimal digits, in groups of 8, 4, 4, 4 and 12 with hyphens between
 -- them

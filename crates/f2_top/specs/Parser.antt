@@ -77,11 +77,14 @@ is_flag_name g name = option_map_or (λ o. not o.has_value) (find (λ o. bytes_e
 -- the matches hold the values of the uses
 pub record Holds (g : Grammar) (uses : List Use) (m : ArgMatches) : Type 0 where
   pub values : (name : Text) → is_value_name g name ≡ true → first_value (found_of m) name ≡ value_in name uses
-  pub flags : (name : Text) → is_flag_name g name ≡ true → one_text (found_of m) name ≡ Some (if is_used name uses then codes "true" else codes "false")
+  pub flags : (name : Text) → is_flag_name g name ≡ true
+      → one_text (found_of m) name ≡ Some (if is_used name uses then codes "true" else codes "false")
 
 -- a parse gives the uses that the grammar reads of the words, or there are none
 abbrev pub Parses : Grammar → List Text → Result ArgMatches WordsRefusal → Type 0
-Parses g words r = MatchResult r (λ m. (uses : List Use) × (uses_of g (drop 1 words) ≡ Some uses) × Holds g uses m) (λ e. e ≡ Usage → uses_of g (drop 1 words) ≡ None)
+Parses g words r =
+    MatchResult r (λ m. (uses : List Use) × (uses_of g (drop 1 words) ≡ Some uses) × Holds g uses m)
+    (λ e. e ≡ Usage → uses_of g (drop 1 words) ≡ None)
 
 -- the answer is this job, or Usage only where there is none
 abbrev pub Names : Option Job → Result Job WordsRefusal → Type 0

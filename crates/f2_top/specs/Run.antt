@@ -122,7 +122,8 @@ emptying_lines image a = lines_unless_failing image (least_failing image) (moves
 
 -- what words for it answer to what was mounted of an image, without a fault
 abbrev pub move_answer : Wish → Image → Result Mounted MountRefusal → Answer
-move_answer w image (Ok m) = unless_outside (outside_aim (layout_in m) w) (emptying_answer image (aim_of (layout_in m) w))
+move_answer w image (Ok m) =
+    unless_outside (outside_aim (layout_in m) w) (emptying_answer image (aim_of (layout_in m) w))
 move_answer w image (Err refusal) = mount_answer refusal
 
 -- its lines
@@ -175,16 +176,19 @@ answer_of (Some Check) size image = check_answer image (mounted size image)
 answer_of (Some Tree) size image = check_answer image (mounted size image)
 answer_of (Some Super) size image = super_answer (loaded size image)
 answer_of (Some (Dump what)) size image = dump_answer what image (mounted size image)
-answer_of (Some (Defrag start blocks target down)) size image = move_answer (wish_of start blocks target down) image (mounted size image)
+answer_of (Some (Defrag start blocks target down)) size image =
+    move_answer (wish_of start blocks target down) image (mounted size image)
 answer_of (Some (Mkfs sectors label uuid second features force)) size image =
     new_answer (unless_there (not force && has_magic image) (size_answer size sectors))
 
 -- what it leaves of an image; a new one has this moment and this uuid where the job gives none
 abbrev pub Leaves : Option Job → ℕ → List ℕ → ℕ → Image → Image → Type 0
 Leaves (Some Super) moment id size image left = left ≡ super_image (loaded size image) image
-Leaves (Some (Defrag start blocks target down)) moment id size image left = LeavesMoved (wish_of start blocks target down) image (mounted size image) left
+Leaves (Some (Defrag start blocks target down)) moment id size image left =
+    LeavesMoved (wish_of start blocks target down) image (mounted size image) left
 Leaves (Some (Mkfs sectors label uuid second features force)) moment id size image left =
-    let o = options_of sectors label uuid second features force moment id in LeavesNew o (format_answer size image o) image left
+    let o = options_of sectors label uuid second features force moment id in
+    LeavesNew o (format_answer size image o) image left
 Leaves job moment id size image left = left ≡ image
 
 -- a disk that told this image tells what the job leaves of it
@@ -209,18 +213,21 @@ AreLines job old early lines = (lines ≡ []) × (early ≡ [])
 
 -- a job that makes an image answers by its sizes, also on a disk that tells nothing
 abbrev pub AreSizes : Option Job → ℕ → Answer → Type 0
-AreSizes (Some (Mkfs sectors label uuid second features force)) size answer = FitsSizes (size_answer size sectors) answer
+AreSizes (Some (Mkfs sectors label uuid second features force)) size answer =
+    FitsSizes (size_answer size sectors) answer
 AreSizes job size answer = Unit {0}
 
 -- a job that moves blocks finds none that it may move
 abbrev pub MovesNone : Option Job → Image → Type 0
-MovesNone (Some (Defrag start blocks target down)) image = HasNone image (aim_of (layout image) (wish_of start blocks target down))
+MovesNone (Some (Defrag start blocks target down)) image =
+    HasNone image (aim_of (layout image) (wish_of start blocks target down))
 MovesNone job image = ⊥
 
 -- What a job may answer, but for a fault of the sink.
 pub record Allowed (job : Option Job) (old new : State) (answer : Answer) : Type 0 where
   -- exactly which answer, where the disk tells its blocks
-  pub exact : OnImage old (λ image. (answer ≡ answer_of job old.size image) ⊎ ((answer ≡ DiskFault) ⊎ (answer ≡ NoMemory)))
+  pub exact : OnImage old (λ image.
+      (answer ≡ answer_of job old.size image) ⊎ ((answer ≡ DiskFault) ⊎ (answer ≡ NoMemory)))
   -- a fault only where the disk had one
   pub fault : answer ≡ DiskFault → Rose old.faults new.faults
   -- Usage where the words name no job, unless memory was short, and only there, on every disk
@@ -235,7 +242,8 @@ pub record Allowed (job : Option Job) (old new : State) (answer : Answer) : Type
 -- what a job answers where neither the disk nor the sink has a fault
 abbrev pub IsAnswered : Option Job → ℕ → Image → Answer → Type 0
 IsAnswered job size image answer =
-    (answer ≡ NoMemory) ⊎ ((answer ≡ answer_of job size image) × (job ≡ Some Super → is_loadable image ≡ true → answer ≡ (if has_twins image then Done else Corrected)))
+    (answer ≡ NoMemory) ⊎ ((answer ≡ answer_of job size image)
+    × (job ≡ Some Super → is_loadable image ≡ true → answer ≡ (if has_twins image then Done else Corrected)))
 
 -- What a sink tells that held these bytes before: the text of the answer, or, where the sink failed, a prefix of the
 -- text of an answer that was allowed.

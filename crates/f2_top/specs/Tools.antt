@@ -66,7 +66,8 @@ dump_job uses = option_and_then (λ what. option_map (λ w. Dump w) what) (dump_
 
 abbrev pub mkfs_grammar : Grammar
 mkfs_grammar = record {
-  options = valued (codes "-l") ∷ valued (codes "-U") ∷ valued (codes "-T") ∷ valued (codes "-O") ∷ flag (codes "-f") ∷ [];
+  options = valued (codes "-l") ∷ valued (codes "-U") ∷ valued (codes "-T") ∷ valued (codes "-O")
+      ∷ flag (codes "-f") ∷ [];
   positional = Some (valued (codes "SECTORS"));
 }
 
@@ -85,11 +86,13 @@ abbrev pub mkfs_by : Option Text → Option Text → Option Text → Option Text
 mkfs_by sectors label uuid second features force =
     option_and_then (λ n. option_and_then (λ units. option_and_then (λ id. option_and_then (λ time. option_map (λ bits.
     Mkfs n units id time bits force)
-    (features_or_none features)) (if_given number_of second)) (if_given uuid_of uuid)) (label_of (unwrap_or label []))) (if_given number_of sectors)
+    (features_or_none features)) (if_given number_of second)) (if_given uuid_of uuid))
+    (label_of (unwrap_or label []))) (if_given number_of sectors)
 
 abbrev pub mkfs_job : List Use → Option Job
 mkfs_job uses =
-    mkfs_by (value_in (codes "SECTORS") uses) (value_in (codes "-l") uses) (value_in (codes "-U") uses) (value_in (codes "-T") uses)
+    mkfs_by (value_in (codes "SECTORS") uses) (value_in (codes "-l") uses) (value_in (codes "-U") uses)
+    (value_in (codes "-T") uses)
     (value_in (codes "-O") uses) (is_used (codes "-f") uses)
 
 -- ---- defrag [-s START] [-l BLOCKS] [-t TARGET] [-i]
@@ -107,7 +110,9 @@ defrag_by start blocks target down =
     (if_given number_of target)) (if_given number_of blocks)) (if_given number_of start)
 
 abbrev pub defrag_job : List Use → Option Job
-defrag_job uses = defrag_by (value_in (codes "-s") uses) (value_in (codes "-l") uses) (value_in (codes "-t") uses) (is_used (codes "-i") uses)
+defrag_job uses =
+    defrag_by (value_in (codes "-s") uses) (value_in (codes "-l") uses) (value_in (codes "-t") uses)
+    (is_used (codes "-i") uses)
 
 -- ---- all words
 

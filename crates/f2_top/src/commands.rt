@@ -23,7 +23,8 @@ fn by_letter<'a>(
     letter: char,
     action: ArgAction,
 ) -> Result<Command<'a>, AllocError>
-    ensures { IfOk result (λ c. app_of c ≡ with_rule (app_of command.entry) (record (new_rule id.entry.now) { short = Some letter; action = Some action })) }
+    ensures { IfOk result (λ c. app_of c ≡ with_rule (app_of command.entry)
+        (record (new_rule id.entry.now) { short = Some letter; action = Some action })) }
 {
     command.arg(Arg::new(alloc, id).short(letter).action(action))
 }
@@ -36,14 +37,16 @@ fn by_name<'a>(
     name: &'a str,
     action: ArgAction,
 ) -> Result<Command<'a>, AllocError>
-    ensures { IfOk result (λ c. app_of c ≡ with_rule (app_of command.entry) (record (new_rule id.entry.now) { long = Some name.entry.now; action = Some action })) }
+    ensures { IfOk result (λ c. app_of c ≡ with_rule (app_of command.entry)
+        (record (new_rule id.entry.now) { long = Some name.entry.now; action = Some action })) }
 {
     command.arg(Arg::new(alloc, id).long(name).action(action))
 }
 
 // Adds a word by itself.
 fn by_place<'a>(alloc: Global, command: Command<'a>, id: &'a str) -> Result<Command<'a>, AllocError>
-    ensures { IfOk result (λ c. app_of c ≡ with_rule (app_of command.entry) (record (new_rule id.entry.now) { action = Some ArgAction.Set })) }
+    ensures { IfOk result (λ c. app_of c ≡ with_rule (app_of command.entry)
+        (record (new_rule id.entry.now) { action = Some ArgAction.Set })) }
 {
     command.arg(Arg::new(alloc, id).action(ArgAction::Set))
 }

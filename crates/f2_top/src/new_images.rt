@@ -37,7 +37,8 @@ fn refused(refusal: FormatRefusal) -> Answer
 
 // Puts the line of the image that was made.
 fn put_sizes<O: Sink>(out: &mut O, geometry: &Geometry) -> Result<(), SinkFault>
-    ensures { Puts (size_line geometry.now) (O.told out.old) (O.told out.new) (O.faults out.old) (O.faults out.new) result }
+    ensures { Puts (size_line geometry.now)
+        (O.told out.old) (O.told out.new) (O.faults out.old) (O.faults out.new) result }
 {
     put_pair(
         out,

@@ -31,7 +31,8 @@ fn refusal(kind: ErrorKind) -> WordsRefusal
 
 // What clap makes of words, of which the first is the tool.
 fn parse<'a>(command: Command<'a>, words: &'a [String]) -> Result<ArgMatches<'a>, WordsRefusal>
-    ensures { (title : Text) → (g : Grammar) → IsNamed g → app_of command.entry ≡ app_of_grammar title g → Parses g (map string_bytes words.entry.now) result }
+    ensures { (title : Text) → (g : Grammar) → IsNamed g → app_of command.entry ≡ app_of_grammar title g
+        → Parses g (map string_bytes words.entry.now) result }
 {
     match command.try_get_matches_from(words) {
         Ok(matches) => Ok(matches),
@@ -41,14 +42,16 @@ fn parse<'a>(command: Command<'a>, words: &'a [String]) -> Result<ArgMatches<'a>
 
 // Whether a flag stands in the words.
 fn flag(matches: &ArgMatches<'_>, name: &str) -> bool
-    ensures { (g : Grammar) → (uses : List Use) → Holds g uses matches.now → is_flag_name g name.now ≡ true → result ≡ is_used name.now uses }
+    ensures { (g : Grammar) → (uses : List Use) → Holds g uses matches.now → is_flag_name g name.now ≡ true
+        → result ≡ is_used name.now uses }
 {
     matches.get_flag(name)
 }
 
 // The value of an option, where it stands in the words.
 fn value<'a>(matches: &ArgMatches<'a>, name: &str) -> Option<&'a str>
-    ensures { (g : Grammar) → (uses : List Use) → Holds g uses matches.now → is_value_name g name.now ≡ true → option_map (λ s. s.now) result ≡ value_in name.now uses }
+    ensures { (g : Grammar) → (uses : List Use) → Holds g uses matches.now → is_value_name g name.now ≡ true
+        → option_map (λ s. s.now) result ≡ value_in name.now uses }
 {
     matches.get_str(name)
 }
@@ -79,7 +82,8 @@ fn what(name: &str, value: &str) -> Option<What>
 
 // An option that is given, and what it dumps.
 fn choice(matches: &ArgMatches<'_>, name: &str) -> Option<Option<What>>
-    ensures { (uses : List Use) → Holds dump_grammar uses matches.now → is_value_name dump_grammar name.now ≡ true → result ≡ chosen name.now uses }
+    ensures { (uses : List Use) → Holds dump_grammar uses matches.now → is_value_name dump_grammar name.now ≡ true
+        → result ≡ chosen name.now uses }
 {
     match value(matches, name) {
         Some(text) => Some(what(name, text)),
@@ -187,7 +191,8 @@ fn image(
     list: Option<&str>,
     force: bool,
 ) -> Option<Job>
-    ensures { result ≡ mkfs_by (option_map (λ s. s.now) sectors.entry) (option_map (λ s. s.now) label.entry) (option_map (λ s. s.now) uuid.entry)
+    ensures { result ≡ mkfs_by (option_map (λ s. s.now) sectors.entry) (option_map (λ s. s.now) label.entry)
+        (option_map (λ s. s.now) uuid.entry)
         (option_map (λ s. s.now) second.entry) (option_map (λ s. s.now) list.entry) force }
 {
     let sectors = number_if(sectors)?;
@@ -224,7 +229,8 @@ fn range_asked(
     target: Option<&str>,
     down: bool,
 ) -> Option<Job>
-    ensures { result ≡ defrag_by (option_map (λ s. s.now) start.entry) (option_map (λ s. s.now) blocks.entry) (option_map (λ s. s.now) target.entry) down }
+    ensures { result ≡ defrag_by (option_map (λ s. s.now) start.entry) (option_map (λ s. s.now) blocks.entry)
+        (option_map (λ s. s.now) target.entry) down }
 {
     let start = number_if(start)?;
     let blocks = number_if(blocks)?;
