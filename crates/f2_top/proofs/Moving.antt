@@ -21,7 +21,7 @@ use Rattle.f2_top.specs.Answers.{IsWhole}
 use Rattle.f2_top.specs.Ranges.{Aim, HasNone, KeepsTreeAlways, LeavesEmptied, lines_unless_failing, moves_line, aim_of, outside_aim, space_answer, unless_failing, unless_outside}
 use Rattle.f2_top.specs.Run.{LeavesMoved, least_failing, move_answer, move_lines, said_answer, said_lines}
 use Rattle.f2_top.specs.Text.{defect_line, defect_lines, moved_line}
-use Rattle.f2_top.specs.declared.moves.Wish.{Wish}
+use Rattle.f2_top.specs.declared.moves.DefragRequest.{DefragRequest}
 use Rattle.f2_top.specs.declared.answer.Answer.{Answer}
 use Rattle.f2_top.specs.declared.answer.Answer.TheVariants.{Done, Defects, NoSpace}
 
@@ -110,7 +110,7 @@ defects_left image a v answer fails says = failing_left image a (least_failing i
 
 -- ---- after the mount, where no number lies outside
 
-module _ (w : Wish) (image : Image) (m : Mounted) (r : Result Mounted MountRefusal) (a : Aim) (same : Ok m ≡ r) (none : outside_aim (layout_in m) w ≡ None) (aim : a ≡ aim_of (layout_in m) w) where
+module _ (w : DefragRequest) (image : Image) (m : Mounted) (r : Result Mounted MountRefusal) (a : Aim) (same : Ok m ≡ r) (none : outside_aim (layout_in m) w ≡ None) (aim : a ≡ aim_of (layout_in m) w) where
   pub range_answer : unless_failing image (least_failing image) (space_answer image a) ≡ move_answer w image r
   range_answer =
       let whole = unless_failing image (least_failing image) (space_answer image (aim_of (layout_in m) w)) in

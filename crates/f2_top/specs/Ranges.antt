@@ -14,7 +14,7 @@ use Rattle.f2_top.specs.Text.{defect_lines, moved_line}
 use Rattle.f2_top.specs.declared.answer.Answer.{Answer}
 use Rattle.f2_top.specs.declared.answer.Answer.TheVariants.{Done, Defects, NoSpace, Refused}
 use Rattle.f2_top.specs.declared.answer.Refusal.TheVariants.{OutOfRange}
-use Rattle.f2_top.specs.declared.moves.Wish.{Wish}
+use Rattle.f2_top.specs.declared.moves.DefragRequest.{DefragRequest}
 
 -- a range of addresses, from one up to another, and the target of what moves
 pub record Aim : Type 0 where
@@ -24,13 +24,13 @@ pub record Aim : Type 0 where
   pub down : Bool
 
 -- what words ask for in an image with this layout, and the number of it that lies outside, if any
-abbrev pub aim_of : Layout → Wish → Aim
+abbrev pub aim_of : Layout → DefragRequest → Aim
 aim_of l w =
     let start = range_start l w.start in
     let end = range_end l start w.blocks in
     record { start = start; end = end; target = range_target start end w.target w.down; down = w.down }
 
-abbrev pub outside_aim : Layout → Wish → Option ℕ
+abbrev pub outside_aim : Layout → DefragRequest → Option ℕ
 outside_aim l w = outside_range l w.start w.blocks w.target w.down
 
 -- the same of a range and a target

@@ -32,7 +32,7 @@ use Rattle.f2_top.specs.declared.answer.Answer.{Answer}
 use Rattle.f2_top.specs.declared.answer.Answer.TheVariants.{Done, Corrected, Defects, DiskFault, SinkFault, Usage, Refused, NoMemory}
 use Rattle.f2_top.specs.declared.answer.Refusal.TheVariants.{NoSuper, Unsupported, TooLarge, Truncated, NoPack, VersionLimit, BadSummary, DeviceTooSmall, TooSmall, OutOfRange, NoSuchNode, Exists}
 use Rattle.f2_top.specs.declared.jobs.Job.{Job}
-use Rattle.f2_top.specs.declared.moves.Wish.{Wish}
+use Rattle.f2_top.specs.declared.moves.DefragRequest.{DefragRequest}
 use Rattle.f2_top.specs.declared.jobs.Job.TheVariants.{Check, Tree, Super, Dump, Defrag, Mkfs}
 
 -- what repairing the superblock copies answers to what was loaded, without a fault
@@ -121,24 +121,24 @@ abbrev pub emptying_lines : Image → Aim → List ℕ
 emptying_lines image a = lines_unless_failing image (least_failing image) (moves_line image a)
 
 -- what words for it answer to what was mounted of an image, without a fault
-abbrev pub move_answer : Wish → Image → Result Mounted MountRefusal → Answer
+abbrev pub move_answer : DefragRequest → Image → Result Mounted MountRefusal → Answer
 move_answer w image (Ok m) =
     unless_outside (outside_aim (layout_in m) w) (emptying_answer image (aim_of (layout_in m) w))
 move_answer w image (Err refusal) = mount_answer refusal
 
 -- its lines
-abbrev pub move_lines : Wish → Image → Result Mounted MountRefusal → List ℕ
+abbrev pub move_lines : DefragRequest → Image → Result Mounted MountRefusal → List ℕ
 move_lines w image (Ok m) = emptying_lines image (aim_of (layout_in m) w)
 move_lines w image (Err refusal) = []
 
 -- and what it leaves of the image
-abbrev pub LeavesMoved : Wish → Image → Result Mounted MountRefusal → Image → Type 0
+abbrev pub LeavesMoved : DefragRequest → Image → Result Mounted MountRefusal → Image → Type 0
 LeavesMoved w image (Ok m) left = LeavesEmptied image (aim_of (layout_in m) w) (move_answer w image (Ok m)) left
 LeavesMoved w image (Err refusal) left = left ≡ image
 
 -- what words ask for
-abbrev pub wish_of : Option ℕ → Option ℕ → Option ℕ → Bool → Wish
-wish_of start blocks target down = record { start = start; blocks = blocks; target = target; down = down }
+abbrev pub request_of : Option ℕ → Option ℕ → Option ℕ → Bool → DefragRequest
+request_of start blocks target down = record { start = start; blocks = blocks; target = target; down = down }
 
 -- what making an image answers, without a fault
 abbrev pub new_answer : Result Geometry FormatRefusal → Answer
@@ -177,7 +177,7 @@ answer_of (Some Tree) size image = check_answer image (mounted size image)
 answer_of (Some Super) size image = super_answer (loaded size image)
 answer_of (Some (Dump what)) size image = dump_answer what image (mounted size image)
 answer_of (Some (Defrag start blocks target down)) size image =
-    move_answer (wish_of start blocks target down) image (mounted size image)
+    move_answer (request_of start blocks target down) image (mounted size image)
 answer_of (Some (Mkfs sectors label uuid second features force)) size image =
     new_answer (unless_there (not force && has_magic image) (size_answer size sectors))
 
@@ -185,7 +185,7 @@ answer_of (Some (Mkfs sectors label uuid second features force)) size image =
 abbrev pub Leaves : Option Job → ℕ → List ℕ → ℕ → Image → Image → Type 0
 Leaves (Some Super) moment id size image left = left ≡ super_image (loaded size image) image
 Leaves (Some (Defrag start blocks target down)) moment id size image left =
-    LeavesMoved (wish_of start blocks target down) image (mounted size image) left
+    LeavesMoved (request_of start blocks target down) image (mounted size image) left
 Leaves (Some (Mkfs sectors label uuid second features force)) moment id size image left =
     let o = options_of sectors label uuid second features force moment id in
     LeavesNew o (format_answer size image o) image left
@@ -206,7 +206,7 @@ AreLines (Some Tree) old early lines = TellsOne old (λ image. let mount = mount
 AreLines (Some (Dump what)) old early lines = TellsOne old (λ image. let mount = mounted old.size image in
     (lines ≡ mounted_lines what image mount) × (early ≡ lines_if_done (dump_answer what image mount) lines))
 AreLines (Some (Defrag start blocks target down)) old early lines = TellsOne old (λ image.
-    (lines ≡ move_lines (wish_of start blocks target down) image (mounted old.size image)) × (early ≡ []))
+    (lines ≡ move_lines (request_of start blocks target down) image (mounted old.size image)) × (early ≡ []))
 AreLines (Some (Mkfs sectors label uuid second features force)) old early lines =
     (lines ≡ new_lines (size_answer old.size sectors)) × (early ≡ [])
 AreLines job old early lines = (lines ≡ []) × (early ≡ [])
@@ -220,7 +220,7 @@ AreSizes job size answer = Unit {0}
 -- a job that moves blocks finds none that it may move
 abbrev pub MovesNone : Option Job → Image → Type 0
 MovesNone (Some (Defrag start blocks target down)) image =
-    HasNone image (aim_of (layout image) (wish_of start blocks target down))
+    HasNone image (aim_of (layout image) (request_of start blocks target down))
 MovesNone job image = ⊥
 
 -- What a job may answer, but for a fault of the sink.

@@ -31,7 +31,7 @@ use std::alloc::Global;
 
 /// The range that is to be emptied, and where to, as words ask for it.
 #[derive(Clone, Copy)]
-pub struct Wish {
+pub struct DefragRequest {
     pub start: Option<u64>,
     pub blocks: Option<u64>,
     pub target: Option<u64>,
@@ -99,20 +99,20 @@ fn is_outside(l: &Layout, range: Range, target: u64) -> bool
 }
 
 // The range and the target; or the number that lies outside.
-fn aim(l: &Layout, wish: &Wish) -> Result<(Range, u64), u64>
+fn aim(l: &Layout, request: &DefragRequest) -> Result<(Range, u64), u64>
     requires order { IsInOrder l.now }
-    ensures none { IfOk result (λ a. outside_aim l.now wish.now ≡ None) }
-    ensures aim { IfOk result (λ a. aim_at a.0 a.1 wish.now.down ≡ aim_of l.now wish.now) }
+    ensures none { IfOk result (λ a. outside_aim l.now request.now ≡ None) }
+    ensures aim { IfOk result (λ a. aim_at a.0 a.1 request.now.down ≡ aim_of l.now request.now) }
     ensures range { IfOk result (λ a. IsInside l.now a.0) }
     ensures target { IfOk result (λ a. (l.now.main ≤ a.1) × (a.1 ≤ area_end l.now)) }
-    ensures outside { IfErr result (λ n. outside_aim l.now wish.now ≡ Some n) }
+    ensures outside { IfErr result (λ n. outside_aim l.now request.now ≡ Some n) }
 {
-    let start = start_of(l, wish.start);
+    let start = start_of(l, request.start);
     if main_end(l) <= start {
         return Err(start);
     }
-    let range = range_from(l, start, wish.blocks);
-    let target = target_of(range, wish.target, wish.down);
+    let range = range_from(l, start, request.blocks);
+    let target = target_of(range, request.target, request.down);
     if is_outside(l, range, target) {
         return Err(target);
     }
@@ -308,15 +308,15 @@ fn empty_mounted<D: Disk, O: Sink>(
 /// Mounts the image, checks it, empties a range of its main area, and puts what moved, or the lines of its defects.
 pub fn empty_range<D: Disk, O: Sink>(
     alloc: Global,
-    wish: &Wish,
+    request: &DefragRequest,
     disk: &mut D,
     out: &mut O,
 ) -> Answer
     // Which answer it is.
     ensures exact { OnImage (D.state disk.old) (λ image.
-        AnswersOrEnds (move_answer wish.now image (mounted (D.state disk.old).size image)) result) }
+        AnswersOrEnds (move_answer request.now image (mounted (D.state disk.old).size image)) result) }
     ensures sink_fault { OnImage (D.state disk.old) (λ image. result ≡ Answer.SinkFault
-        → IsWhole (move_answer wish.now image (mounted (D.state disk.old).size image))) }
+        → IsWhole (move_answer request.now image (mounted (D.state disk.old).size image))) }
     ensures fault { result ≡ Answer.DiskFault → Rose (D.state disk.old).faults (D.state disk.new).faults }
     ensures sink { result ≡ Answer.SinkFault → Rose (O.faults out.old) (O.faults out.new) }
     ensures others { (result ≢ Answer.Usage) × (result ≢ Answer.Corrected) }
@@ -324,14 +324,14 @@ pub fn empty_range<D: Disk, O: Sink>(
     // The lines that it puts.
     ensures lines { OnImage (D.state disk.old) (λ image.
         let mount = mounted (D.state disk.old).size image in
-        Appends (O.told out.old) (O.told out.new) (IsFront [] (move_lines wish.now image mount) result)) }
+        Appends (O.told out.old) (O.told out.new) (IsFront [] (move_lines request.now image mount) result)) }
     ensures silent { IsLastAlone false result → O.told out.new ≡ O.told out.old }
 
     // The image that it leaves.
     ensures image { OnImage (D.state disk.old) (λ image. result ≢ Answer.DiskFault → result ≢ Answer.NoMemory
-        → TellsOne (D.state disk.new) (LeavesMoved wish.now image (mounted (D.state disk.old).size image))) }
+        → TellsOne (D.state disk.new) (LeavesMoved request.now image (mounted (D.state disk.old).size image))) }
     ensures idle { IsIdle false true result → Reads (D.state disk.old) (D.state disk.new) }
-    ensures none { OnImage (D.state disk.old) (λ image. HasNone image (aim_of (layout image) wish.now)
+    ensures none { OnImage (D.state disk.old) (λ image. HasNone image (aim_of (layout image) request.now)
         → Reads (D.state disk.old) (D.state disk.new)) }
     ensures durable { IsSettled result (D.state disk.old) (D.state disk.new) }
 
@@ -342,8 +342,8 @@ pub fn empty_range<D: Disk, O: Sink>(
     ensures sink_goes { O.faults out.old ≤ O.faults out.new }
 {
     match mount(alloc, disk) {
-        Ok(m) => match aim(&m.layout(), wish) {
-            Ok((range, target)) => empty_mounted(alloc, m, range, target, wish.down, disk, out),
+        Ok(m) => match aim(&m.layout(), request) {
+            Ok((range, target)) => empty_mounted(alloc, m, range, target, request.down, disk, out),
             Err(number) => Answer::Refused(Refusal::OutOfRange(number)),
         },
         Err(refusal) => refused(refusal),

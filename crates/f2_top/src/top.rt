@@ -17,7 +17,7 @@ use crate::Answer;
 use crate::checks::check_image;
 use crate::dumps::dump_image;
 use crate::jobs::{Job, WordsRefusal};
-use crate::moves::{Wish, empty_range};
+use crate::moves::{DefragRequest, empty_range};
 use crate::new_images::make_image;
 use crate::report::put_last;
 use crate::super_copies::repair_copies;
@@ -75,13 +75,13 @@ fn answer<D: Disk, O: Sink>(
                 down,
             },
         ) => {
-            let wish = Wish {
+            let request = DefragRequest {
                 start: *start,
                 blocks: *blocks,
                 target: *target,
                 down: *down,
             };
-            empty_range(alloc, &wish, disk, out)
+            empty_range(alloc, &request, disk, out)
         }
         Some(
             Job::Mkfs {

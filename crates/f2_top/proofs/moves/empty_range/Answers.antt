@@ -16,7 +16,7 @@ empty_mounted-requires-clause-readable g c = λ image told.
 
 pub returns-in-Ok-aim-clause-exact : goal.returns-in-Ok-aim-clause-exact
 returns-in-Ok-aim-clause-exact g c = λ image told.
-    let w = c.args.wish.now in
+    let w = c.args.request.now in
     let none = subst (λ (l : Layout). outside_aim l w ≡ None) c.layout.ensures.value c.in-Ok-aim.ensures.none in
     let aim = c.in-Ok-aim.ensures.aim ∙ ap (λ (l : Layout). aim_of l w) c.layout.ensures.value in
     let is = range_answer w image c.in-Ok.m _ (aim_at c.in-Ok-aim.range c.in-Ok-aim.target w.down) (c.in-Ok.ensures.exact image told) none aim in
@@ -24,7 +24,7 @@ returns-in-Ok-aim-clause-exact g c = λ image told.
 
 pub returns-in-Ok-aim-clause-sink_fault : goal.returns-in-Ok-aim-clause-sink_fault
 returns-in-Ok-aim-clause-sink_fault g c = λ image told fault.
-    let w = c.args.wish.now in
+    let w = c.args.request.now in
     let none = subst (λ (l : Layout). outside_aim l w ≡ None) c.layout.ensures.value c.in-Ok-aim.ensures.none in
     let aim = c.in-Ok-aim.ensures.aim ∙ ap (λ (l : Layout). aim_of l w) c.layout.ensures.value in
     let is = range_answer w image c.in-Ok.m _ (aim_at c.in-Ok-aim.range c.in-Ok-aim.target w.down) (c.in-Ok.ensures.exact image told) none aim in
@@ -32,7 +32,7 @@ returns-in-Ok-aim-clause-sink_fault g c = λ image told fault.
 
 pub returns-in-Ok-aim-clause-lines : goal.returns-in-Ok-aim-clause-lines
 returns-in-Ok-aim-clause-lines g c = λ image told' had told.
-    let w = c.args.wish.now in
+    let w = c.args.request.now in
     let none = subst (λ (l : Layout). outside_aim l w ≡ None) c.layout.ensures.value c.in-Ok-aim.ensures.none in
     let aim = c.in-Ok-aim.ensures.aim ∙ ap (λ (l : Layout). aim_of l w) c.layout.ensures.value in
     let are = range_lines w image c.in-Ok.m _ (aim_at c.in-Ok-aim.range c.in-Ok-aim.target w.down) (c.in-Ok.ensures.exact image told') none aim in
@@ -41,7 +41,7 @@ returns-in-Ok-aim-clause-lines g c = λ image told' had told.
 
 pub returns-in-Ok-aim-clause-image : goal.returns-in-Ok-aim-clause-image
 returns-in-Ok-aim-clause-image g c = λ image told fault memory.
-    let w = c.args.wish.now in
+    let w = c.args.request.now in
     let none = subst (λ (l : Layout). outside_aim l w ≡ None) c.layout.ensures.value c.in-Ok-aim.ensures.none in
     let aim = c.in-Ok-aim.ensures.aim ∙ ap (λ (l : Layout). aim_of l w) c.layout.ensures.value in
     let left = c.empty_mounted.ensures.image image (c.mount.ensures.reads.told ∙ told) fault memory in
@@ -52,7 +52,7 @@ returns-in-Ok-aim-clause-idle g c = λ idle. reads_then c.mount.ensures.goes.lat
 
 pub returns-in-Ok-aim-clause-none : goal.returns-in-Ok-aim-clause-none
 returns-in-Ok-aim-clause-none g c = λ image told none.
-    let w = c.args.wish.now in
+    let w = c.args.request.now in
     let own = layout_same image c.in-Ok.m (c.in-Ok.ensures.of_image image told) in
     let aim = c.in-Ok-aim.ensures.aim ∙ ap (λ (l : Layout). aim_of l w) (c.layout.ensures.value ∙ own) in
     reads_then c.mount.ensures.goes.later c.mount.ensures.reads (c.empty_mounted.ensures.none image (c.mount.ensures.reads.told ∙ told) (subst (HasNone image) (sym aim) none))
