@@ -10,6 +10,7 @@ pub mod Parsed
 pub mod Moving
 pub mod Parses
 pub mod Readable
+pub mod Repairing
 pub mod Spelling
 pub mod Turns
 pub mod Unmounted

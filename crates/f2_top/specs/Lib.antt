@@ -5,6 +5,7 @@ pub mod Jobs
 pub mod Numbers
 pub mod Parser
 pub mod Ranges
+pub mod Repairs
 pub mod Run
 pub mod Text
 pub mod Tools

@@ -6,6 +6,7 @@ ghost use Rattle.f2_disk.specs.Disk.{Reads, Goes, Rose};
 ghost use Rattle.f2_super.specs.Load.{loaded, KeepsSuper};
 ghost use Rattle.f2_top.specs.Answers.{IsSuccess, IsIdle};
 ghost use Rattle.f2_top.specs.Disks.{IsSettled, OnImage};
+ghost use Rattle.f2_top.specs.Repairs.{Repairs, RepairsAlways};
 ghost use Rattle.f2_top.specs.Run.{super_answer, super_image};
 
 use crate::{Answer, Refusal};
@@ -27,7 +28,11 @@ pub fn repair_copies<D: Disk>(disk: &mut D) -> Answer
     ensures idle { IsIdle false false result → Reads (D.state disk.old) (D.state disk.new) }
     ensures durable { IsSettled result (D.state disk.old) (D.state disk.new) }
 
-    // A crash at any moment leaves an image with the same superblock.
+    // Whatever it answers, and in a crash at any moment, no block differs but the other copy's.
+    ensures repairs { Repairs (D.state disk.old) (D.state disk.new) }
+    ensures repairing { RepairsAlways (D.state disk.old) (D.state disk.new) }
+
+    // Such a crash leaves an image with the same superblock.
     ensures any_moment { KeepsSuper (D.state disk.old) (D.state disk.new) }
     ensures goes { Goes (D.state disk.old) (D.state disk.new) }
 {

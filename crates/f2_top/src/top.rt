@@ -10,6 +10,7 @@ ghost use Rattle.f2_top.specs.Jobs.{takes_memory, makes_image, moves_blocks, has
 ghost use Rattle.f2_top.specs.Tools.{job_of, is_super};
 ghost use Rattle.f2_top.specs.Text.{Appends, IsFront, last_of};
 ghost use Rattle.f2_top.specs.Ranges.{KeepsTree, KeepsTreeAlways};
+ghost use Rattle.f2_top.specs.Repairs.{Repairs, RepairsAlways};
 ghost use Rattle.f2_top.specs.Run.{answer_of, IsLeft, AreLines, AreSizes, Allowed, IsAnswered, MovesNone, Printed};
 ghost use Rattle.f2_top.specs.declared.jobs.Job.TheVariants.{Check, Tree, Super, Dump, Defrag, Mkfs};
 
@@ -56,6 +57,8 @@ fn answer<D: Disk, O: Sink>(
     ensures none { OnImage (D.state disk.old) (λ image. MovesNone job.now image
         → Reads (D.state disk.old) (D.state disk.new)) }
     ensures durable { IsSettled result (D.state disk.old) (D.state disk.new) }
+    ensures repairs { job.now ≡ Some Super → Repairs (D.state disk.old) (D.state disk.new) }
+    ensures repairing { job.now ≡ Some Super → RepairsAlways (D.state disk.old) (D.state disk.new) }
     ensures either { moves_blocks job.now ≡ true → KeepsTree (D.state disk.old) (D.state disk.new) }
     ensures moving { moves_blocks job.now ≡ true → KeepsTreeAlways (D.state disk.old) (D.state disk.new) }
     ensures any_moment { makes_image job.now ≡ false → KeepsSuper (D.state disk.old) (D.state disk.new) }
@@ -139,6 +142,8 @@ pub fn perform<D: Disk, O: Sink>(
     ensures complete { OnImage (D.state disk.old) (λ image. ¬ (Rose (D.state disk.old).faults (D.state disk.new).faults)
         → ¬ (Rose (O.faults out.old) (O.faults out.new))
         → IsAnswered job.now (D.state disk.old).size image result) }
+    ensures repairs { job.now ≡ Some Super → Repairs (D.state disk.old) (D.state disk.new) }
+    ensures repairing { job.now ≡ Some Super → RepairsAlways (D.state disk.old) (D.state disk.new) }
     ensures either { moves_blocks job.now ≡ true → KeepsTree (D.state disk.old) (D.state disk.new) }
     ensures moving { moves_blocks job.now ≡ true → KeepsTreeAlways (D.state disk.old) (D.state disk.new) }
     ensures any_moment { makes_image job.now ≡ false → KeepsSuper (D.state disk.old) (D.state disk.new) }
@@ -216,6 +221,13 @@ pub fn run<D: Disk, O: Sink>(
         OnImage (D.state disk.old) (λ image. ¬ (Rose (D.state disk.old).faults (D.state disk.new).faults)
         → ¬ (Rose (O.faults out.old) (O.faults out.new))
         → IsAnswered named (D.state disk.old).size image result) }
+
+    // Whatever fsck --super answers, no block differs but that of the other superblock copy, which is the old one, the
+    // new one or torn; and so it is in a crash at any moment of it.
+    ensures repairs { let named = job_of (map string_bytes words.now) in
+        named ≡ Some Super → Repairs (D.state disk.old) (D.state disk.new) }
+    ensures repairing { let named = job_of (map string_bytes words.now) in
+        named ≡ Some Super → RepairsAlways (D.state disk.old) (D.state disk.new) }
 
     // Whatever defrag answers, a checked image stays one with the same tree and superblock copies; and so it does in a
     // crash at any moment of it.
