@@ -1,0 +1,5 @@
+pub mod CopiedSummaries
+pub mod Emptied
+pub mod Laws
+pub mod MovedLogs
+pub mod Relaid

@@ -1,0 +1,15 @@
+//! The sizes of the areas that a resize aims at, and the laws that it rests on: what its moves of logs and its last part
+//! leave is checked, with the same tree.
+//!
+//! A resize takes three steps. Logs in segments that fall away go on in free ones, in one commit. The blocks in use there
+//! are moved, batch by batch. In the last part the areas are laid anew, while the blocks of the main area stay where they
+//! are. `specs/Aim` has the sizes and the needs, `specs/MovedLogs` the first step, `specs/Emptied` what stands before the
+//! last part, and `specs/Relaid` with `specs/CopiedSummaries` what the last part leaves.
+#![tactic(auto)]
+
+mod laws;
+
+pub use laws::{
+    aims_are_in_order, copied_summaries_stay, copies_of_aims_pass, emptied_images_have_room,
+    moved_logs_keep_the_tree, relaid_areas_have_no_chain, relaid_areas_keep_the_tree,
+};
