@@ -1,3 +1,4 @@
+pub mod Following
 pub mod FreeNids
 pub mod Moves
 pub mod RelocRefusals
