@@ -12,7 +12,8 @@ use Rattle.f2_bytes.specs.Tree.{is_inode, tree_slot}
 use Rattle.f2_bytes.specs.Check.{is_address, kind_at}
 use Rattle.f2_bytes.specs.Moved.{moved_entry}
 use Rattle.f2_commit.specs.FreeNids.{least_free_nid}
-use Rattle.f2_commit.specs.Following.{Move, place_after, is_moved, IsFollowedNode, HasKind, HasFollowed, MovesFollowEachOther}
+use Rattle.f2_commit.specs.Following.{Move, place_after, is_moved, IsFollowedNode, HasKind, HasFollowed}
+use Rattle.f2_commit.specs.Laws.{MovesFollowEachOther}
 use Rattle.f2_commit.proofs.FollowMoves.{place_after-append, is_moved-append, unmoved_stays}
 use Rattle.f2_commit.proofs.FollowWords.{node_followed_twice}
 

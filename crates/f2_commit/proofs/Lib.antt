@@ -2,6 +2,7 @@ pub mod FollowBatch
 pub mod FollowKinds
 pub mod FollowLaw
 pub mod FollowMoves
+pub mod FollowNothing
 pub mod FollowSteps
 pub mod FollowWords
 pub mod FreeCounts

@@ -86,7 +86,3 @@ pub record HasFollowed (moves : List Move) (image new : Image) : Type 0 where
   pub node_kinds : (nid : ℕ) (e : NatEntry) → nat image nid ≡ Some e → HasKind moves image new 4 e.address
   -- a new node is looked for from the least free number on, unless nothing moved
   pub next_free : (next_free_nid (head new) ≡ least_free_nid new) ⊎ ((moves ≡ []) × (next_free_nid (head new) ≡ next_free_nid (head image)))
-
--- moves that follow other moves
-abbrev pub MovesFollowEachOther : Type 0
-MovesFollowEachOther = (first second : List Move) (image between new : Image) → HasFollowed first image between → HasFollowed second between new → HasFollowed (first ++ second) image new
