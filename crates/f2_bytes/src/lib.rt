@@ -6,6 +6,7 @@
 //! (FAST 2015).
 #![tactic(auto)]
 
+mod aim;
 mod bits;
 mod checkpoint;
 mod checksum;
@@ -15,11 +16,15 @@ mod layout;
 mod readers;
 mod superblock;
 
+pub use aim::Aim;
 pub use bits::{bit_lsb, bit_msb, count_bits, set_bit_lsb, set_bit_msb};
 pub use checkpoint::{CHECKPOINT, checkpoint_rows_lie_apart};
 pub use checksum::{crc, seal, sealed};
 pub use fields::{Field, FieldTable};
-pub use laws::{checked_is_mountable, free_segments_hold_no_support, support_keeps_tree};
+pub use laws::{
+    checked_is_mountable, free_segments_hold_no_support, moved_blocks_keep_the_tree,
+    support_keeps_tree,
+};
 pub use layout::Layout;
 pub use readers::{u8_at, u16_at, u32_at, u64_at};
 pub use superblock::{SUPER, passes, superblock_rows_lie_apart};

@@ -1,9 +1,10 @@
 // A disk that stops in the middle of a run.
-ghost use Rattle.std.specs.Prelude.{◌≡◌, ◌≤◌, ◌<◌, ◌+◌, ◌-◌, ◌^◌, min, length, false, true, OnOk, OnErr, IfOk, IsErr, take, drop, ◌++◌};
+ghost use Rattle.std.specs.Prelude.{◌≡◌, ◌≤◌, ◌<◌, ◌+◌, ◌-◌, ◌^◌, min, length, false, true, OnOk, OnErr, IfOk, IsErr, not};
 ghost use Rattle.std.specs.Bool.{OnTrue, OnFalse};
 ghost use Rattle.f2_bytes.specs.Bytes.{Image, block_at};
 ghost use Rattle.f2_disk.specs.Calls.{raised};
 ghost use Rattle.f2_disk.specs.Disk.{State, Reads, Writes, Wrote, Syncs, Goes, IsTorn, Rose};
+ghost use Rattle.f2_disk.specs.Stop.{half_of, is_whole, torn_block, Tears};
 
 use crate::{Block, Disk, DiskFault};
 use f2_bytes::{passes, sealed};
@@ -34,7 +35,7 @@ pub struct StopDisk<D: Disk + Drop> {
 
 // The first half of one block before the second half of the other.
 fn half_written(new: &Block, old: &Block) -> Block
-    ensures { result ≡ take 2048 new.now ++ drop 2048 old.now }
+    ensures { result ≡ half_of new.now old.now }
 {
     let (first, _) = new.bytes().split_at(2048);
     let mut half = *old;
@@ -44,7 +45,8 @@ fn half_written(new: &Block, old: &Block) -> Block
 
 // Whether no reader takes the block for whole.
 fn is_torn(b: &Block) -> bool
-    ensures { OnTrue result (IsTorn b.now) }
+    ensures torn { OnTrue result (IsTorn b.now) }
+    ensures whole { result ≡ not (is_whole b.now) }
 {
     let bytes = b.bytes();
     !sealed(bytes) && !passes(bytes)
@@ -55,6 +57,7 @@ fn write_half<D: Disk>(disk: &mut D, at: u64, from: &Block) -> bool
     requires { at < (D.state disk.old).size }
     ensures wrote { OnTrue result (Writes at from.now (D.state disk.old) (D.state disk.new)) }
     ensures skipped { OnFalse result (Reads (D.state disk.old) (D.state disk.new)) }
+    ensures tears { Tears Torn.Half at from.now (D.state disk.old) (D.state disk.new) }
     ensures goes { Goes (D.state disk.old) (D.state disk.new) }
 {
     let mut old = Block::zeros();
@@ -75,6 +78,7 @@ fn last_write<D: Disk>(disk: &mut D, torn: Torn, at: u64, from: &Block) -> bool
     ensures wrote { OnTrue result (Writes at from.now (D.state disk.old) (D.state disk.new)) }
     ensures skipped { OnFalse result (Reads (D.state disk.old) (D.state disk.new)) }
     ensures kept { torn ≡ Torn.Old → (result ≡ false) × (disk.new ≡ disk.old) }
+    ensures tears { Tears torn at from.now (D.state disk.old) (D.state disk.new) }
     ensures goes { Goes (D.state disk.old) (D.state disk.new) }
 {
     match torn {
@@ -181,6 +185,7 @@ impl<D: Disk + Drop> Disk for StopDisk<D> {
         ensures writes { Writes at from.now (stopped (D.state self.old.inner) self.old.writes self.old.faults) (stopped (D.state self.new.inner) self.new.writes self.new.faults) }
         ensures kept { self.old.torn ≡ Torn.Old → self.old.stop ≤ raised self.old.calls → self.new.inner ≡ self.old.inner }
         ensures past { self.old.stop < raised self.old.calls → self.new.inner ≡ self.old.inner }
+        ensures tears { self.old.stop ≡ raised self.old.calls → Tears self.old.torn at from.now (D.state self.old.inner) (D.state self.new.inner) }
         ensures goes { Goes (stopped (D.state self.old.inner) self.old.writes self.old.faults) (stopped (D.state self.new.inner) self.new.writes self.new.faults) }
         ensures fault { OnErr result (Rose (stopped (D.state self.old.inner) self.old.writes self.old.faults).faults (stopped (D.state self.new.inner) self.new.writes self.new.faults).faults) }
         ensures calls { self.new.calls ≡ raised self.old.calls }

@@ -180,6 +180,18 @@ is_unsealed g features values id label zeros rowed with_id with_label with_versi
           ∙ sym (get_or_past {X = ℕ} label i 0 past)
     ]
 
+-- and there is none yet where the checksum may stand
+pub no_checksum : (g : Geometry) (features : ℕ) (values id label old rowed with_id with_label with_version c : List ℕ)
+    → values ≡ new_rows g features → length id ≡ 16 → length label ≤ 511 → IsFilled superblock_rows values 33 old rowed
+    → Keeps 108 (length id) rowed with_id → Keeps 124 (2 * length label) with_id with_label → Keeps 1668 7 with_label with_version → Keeps 1924 7 with_version c
+    → copy_row c 32 ≡ 0
+no_checksum g features values id label old rowed with_id with_label with_version c is_values id_length few filled id_keeps label_keeps version_keeps init_keeps =
+    init_keeps.others 3068 4 (inr (omega arith))
+    ∙ version_keeps.others 3068 4 (inr (omega arith))
+    ∙ label_keeps.others 3068 4 (inr (omega (arith, few)))
+    ∙ id_keeps.others 3068 4 (inr (omega (arith, id_length)))
+    ∙ filled.filled 32 (omega arith) ∙ ap (λ l. get_or l 32 0) is_values
+
 -- a checksum changes none of it
 pub unsealed-kept : (g : Geometry) (features : ℕ) (id label c d : List ℕ) → IsUnsealed g features id label c → Keeps 3068 4 c d → IsUnsealed g features id label d
 unsealed-kept g features id label c d is keeps = record {
@@ -399,11 +411,19 @@ module _ (g : Geometry) (features : ℕ) (id label c : List ℕ) (is : IsUnseale
             let less : k < 16 = omega (arith, below, sizes_agree, sixteen) in
             get_or-take 16 (drop 108 c) k 0 less ∙ get_or-drop 108 c k 0 ∙ sym (number_at-byte c (108 + k)) ∙ is.id k less
 
-    pub new-copy : length id ≡ 16 → length label ≤ 511 → list_all (λ u. not (u == 0)) label ≡ true → IsNewCopy g features id label c
-    new-copy sixteen few whole = record {
+    said_sum : (has_bit features 11 ≡ false → copy_row c 32 ≡ 0) → copy_row c 32 ≡ cond (has_bit features 11) (crc magic_number (take 3068 c)) 0
+    said_sum none = go (has_bit features 11) refl
+      where
+        go : (t : Bool) → has_bit features 11 ≡ t → copy_row c 32 ≡ cond (has_bit features 11) (crc magic_number (take 3068 c)) 0
+        go true on = sum on ∙ ap (λ t. cond t (crc magic_number (take 3068 c)) 0) (sym on)
+        go false off = none off ∙ ap (λ t. cond t (crc magic_number (take 3068 c)) 0) (sym off)
+
+    pub new-copy : (has_bit features 11 ≡ false → copy_row c 32 ≡ 0) → length id ≡ 16 → length label ≤ 511 → list_all (λ u. not (u == 0)) label ≡ true → IsNewCopy g features id label c
+    new-copy none sixteen few whole = record {
       size = is.size;
       passes = new-passes;
       rows = is.rows;
+      checksum = said_sum none;
       layout = λ i. record { blocks = r10 i; cp = r19 i; sit = r20 i; nat = r21 i; ssa = r22 i; main = r23 i; sit_half = 512 * (r14 i / 2); nat_half = 512 * (r15 i / 2); segments = r17 i };
       features_said = r31;
       id_said = said_id sixteen;

@@ -1,12 +1,12 @@
 -- What stands in a block that a repair writes, and what a crash leaves of it.
-use Rattle.std.proofs.Common.{◌≡◌, ◌⊎◌, ◌≢◌, inl, inr, ℕ, ◌-◌, ◌<◌, ◌≤◌, Bool, true, false, cond, List, [], ◌++◌, length, set, drop, Option, Some, None, Ok, refl, sym, ◌∙◌, ap, arith, get_or-set_same, get_or-set_other}
+use Rattle.std.proofs.Common.{◌≡◌, ◌⊎◌, ◌≢◌, inl, inr, ℕ, ◌-◌, ◌<◌, ◌≤◌, Bool, true, false, cond, List, [], ◌++◌, length, set, take, drop, Option, Some, None, Ok, refl, sym, ◌∙◌, ap, subst, arith, get_or-set_same, get_or-set_other}
 use Rattle.std.specs.Prelude.{◌&&◌, option_map}
 use Rattle.std.proofs.lemmas.List.{drop_at, get_or_past}
 use Rattle.f2_bytes.specs.Bytes.{Image, block_at, number_at}
 use Rattle.f2_bytes.specs.Superblock.{passes, copy_passes, copy_of, has_known_form, super_of, has_twins, agree}
 use Rattle.f2_disk.specs.Disk.{IsTorn, Lands}
 use Rattle.f2_super.specs.Copy.{copy_in}
-use Rattle.f2_super.specs.Load.{loaded, loaded_copy, unless, refusal_of}
+use Rattle.f2_super.specs.Load.{loaded, loaded_copy, unless, refusal_of, IsRepairing}
 use Rattle.f2_super.specs.Choice.{found_of}
 use Rattle.f2_super.specs.declared.loading.Found.{Found}
 use Rattle.f2_super.specs.declared.loading.SuperRefusal.{SuperRefusal}
@@ -121,6 +121,12 @@ landed_at img c f at bytes good two (inr (one, none, second)) other (inr (inr (t
 copy_passes_at : (img : Image) (f : Found) → Place img f → copy_passes f.sup ≡ true
 copy_passes_at img f (inl (_, first)) = passes_if_some (block_at img 0) f.sup first
 copy_passes_at img f (inr (_, none, second)) = passes_if_some (block_at img 1) f.sup second
+
+-- what a write of the copy over the other block leaves
+pub repairing : (f : Found) (img c : Image) (copy : ℕ) (into bytes : List ℕ) → copy ≡ f.copy → into ≡ block_at img (1 - copy) → bytes ≡ take 1024 into ++ f.sup → Lands (1 - copy) bytes img c → IsRepairing f img c
+repairing f img c copy into bytes is_copy is_read is_put lands =
+    subst (λ (at : ℕ). Lands at (take 1024 (block_at img at) ++ f.sup) img c) (ap (λ (n : ℕ). 1 - n) is_copy)
+    (subst (λ (b : List ℕ). Lands (1 - copy) b img c) (is_put ∙ ap (λ (b : List ℕ). take 1024 b ++ f.sup) is_read) lands)
 
 -- what a repair is handed, and what it writes
 module _ (img : Image) (f : Found) (size : ℕ) (found : loaded size img ≡ Ok f) (front bytes : List ℕ) (at : ℕ) (other : at ≡ 1 - f.copy) (is : bytes ≡ front ++ f.sup) (long : length front ≡ 1024) (two : 2 ≤ length img) where

@@ -2,7 +2,7 @@
 use Rattle.std.specs.Prelude.{◌≡◌, ℕ, ◌-◌, ◌^◌, ◌<◌, ◌≤◌, ◌==◌, nat_lt, Bool, true, false, if◌then◌else◌, List, ◌++◌, take, slice_set, Option, Some, None, Result, Ok, Err}
 use Rattle.f2_bytes.specs.Bytes.{Image, block_at}
 use Rattle.f2_bytes.specs.Superblock.{copy_passes, copy_of, super_copy, super_of, has_twins, block_count, unsupported_features}
-use Rattle.f2_disk.specs.Disk.{State, LeavesOnly}
+use Rattle.f2_disk.specs.Disk.{State, Lands, LeavesOnly}
 use Rattle.f2_super.specs.declared.loading.Found.{Found}
 use Rattle.f2_super.specs.declared.loading.SuperRefusal.{SuperRefusal}
 use Rattle.f2_super.specs.declared.loading.SuperRefusal.TheVariants.{NoSuper, Unsupported, TooLarge, Truncated, DiskFault}
@@ -36,6 +36,11 @@ OrFault answer is = answer ≡ is
 -- the image with the bytes of the copy that counts in the other copy's block, from byte 1024 on
 abbrev pub repaired : Found → Image → Image
 repaired f image = let other = 1 - f.copy in slice_set image other (take 1024 (block_at image other) ++ f.sup)
+
+-- A repair that was done, not done or cut short: the other copy's block is the new one, the old one or torn, and no other
+-- block differs.
+abbrev pub IsRepairing : Found → Image → Image → Type 0
+IsRepairing f old new = let other = 1 - f.copy in Lands other (take 1024 (block_at old other) ++ f.sup) old new
 
 -- Where nothing was pending, a crash at any moment since then leaves an image whose superblock has the bytes of that
 -- moment.

@@ -2,10 +2,10 @@
 ghost use Rattle.std.specs.Prelude.{◌≡◌, ◌≤◌, ◌<◌, ◌^◌, ℕ, Some, None, true, false, Ok, IfSome, IfOk, OnOk, OnErr, IsErrOf};
 ghost use Rattle.f2_bytes.specs.Bytes.{Image, block_at};
 ghost use Rattle.f2_bytes.specs.Superblock.{copy_passes, block_count, has_twins, unsupported_features as unsupported_bits};
-ghost use Rattle.f2_disk.specs.Disk.{State, Reads, Goes, Rose};
+ghost use Rattle.f2_disk.specs.Disk.{State, Reads, Goes, Rose, LeavesOnly};
 ghost use Rattle.f2_super.specs.Copy.{copy_in};
 ghost use Rattle.f2_super.specs.Choice.{found_of};
-ghost use Rattle.f2_super.specs.Load.{loaded, refusal_of, OrFault, repaired, KeepsSuper, IsSound};
+ghost use Rattle.f2_super.specs.Load.{loaded, refusal_of, OrFault, repaired, IsRepairing, KeepsSuper, IsSound};
 ghost use Rattle.f2_super.specs.declared.loading.SuperRefusal.TheVariants.{DiskFault as Faulted};
 
 use crate::features::Features;
@@ -156,8 +156,14 @@ pub fn repair<D: Disk>(d: &mut D, f: &Found) -> Result<(), DiskFault>
     ensures durable { OnOk result ((D.state d.new).pending ≡ false) }
     ensures counted { OnOk result (Rose (D.state d.old).writes (D.state d.new).writes) }
 
-    // A crash at any moment of the call leaves an image with the same superblock.
+    // Whatever it answers, no block differs but the other copy's: that is the old one, the new one, or torn where a write
+    // was cut short.
+    ensures either { (image : Image) → (D.state d.old).told ≡ Some image → (now : Image) × ((D.state d.new).told ≡ Some now) × IsRepairing f.now image now }
+
+    // A crash at any moment of the call leaves such an image too, with the same superblock.
     ensures any_moment { KeepsSuper (D.state d.old) (D.state d.new) }
+    ensures repairing { (D.state d.old).pending ≡ false → (image : Image) → (D.state d.old).told ≡ Some image
+        → LeavesOnly (D.state d.old) (D.state d.new) (IsRepairing f.now image) }
 
     // It gives up only at a fault of the disk.
     ensures goes { Goes (D.state d.old) (D.state d.new) }

@@ -1,5 +1,5 @@
 // The superblock of a new image.
-ghost use Rattle.std.specs.Prelude.{◌≡◌, ◌≤◌, ◌<◌, ℕ, ◌+◌, ◌*◌, slice_index, ◌^◌, ◌==◌, not, true, if◌then◌else◌, Ok, length, take};
+ghost use Rattle.std.specs.Prelude.{◌≡◌, ◌≤◌, ◌<◌, ℕ, ◌+◌, ◌*◌, slice_index, ◌^◌, ◌==◌, not, true, false, if◌then◌else◌, Ok, length, take};
 ghost use Rattle.std.specs.List.{list_all};
 ghost use Rattle.f2_bytes.specs.Bytes.{has_bit, number_at, with_bytes};
 ghost use Rattle.f2_bytes.specs.Fields.{row_at, with_field, field_at};
@@ -136,7 +136,8 @@ fn put_label(c: &mut [u8], label: &[u16])
 fn unsealed(g: &Geometry, features: u32, uuid: &[u8; 16], label: &[u16]) -> [u8; 3072]
     requires geometry { geometry_answer g.now.blocks ≡ Ok g.now }
     requires few { length label.now ≤ 511 }
-    ensures { IsUnsealed g.now features uuid.now label.now result }
+    ensures parts { IsUnsealed g.now features uuid.now label.now result }
+    ensures no_checksum { copy_row result 32 ≡ 0 }
 {
     let mut c = [0; 3072];
     fill(&mut c, &row_values(g, features));
@@ -160,6 +161,7 @@ fn put_checksum(c: &mut [u8], features: u32)
     requires { length c.old ≡ 3072 }
     ensures right { has_bit features 11 ≡ true → copy_row c.new 32 ≡ crc_of 0xF2F52010 (take 3068 c.new) }
     ensures others { Keeps 3068 4 c.old c.new }
+    ensures none { has_bit features 11 ≡ false → c.new ≡ c.old }
 {
     if features / 2048 % 2 == 1 {
         let sum = front_sum(c, 3068);
