@@ -53,3 +53,4 @@ pub mod SlotSupport
 pub mod Tables
 pub mod Terms
 pub mod TreeNodes
+pub mod ValidAddresses

@@ -185,7 +185,8 @@ impl<D: Disk + Drop> Disk for StopDisk<D> {
         ensures writes { Writes at from.now (stopped (D.state self.old.inner) self.old.writes self.old.faults) (stopped (D.state self.new.inner) self.new.writes self.new.faults) }
         ensures kept { self.old.torn ≡ Torn.Old → self.old.stop ≤ raised self.old.calls → self.new.inner ≡ self.old.inner }
         ensures past { self.old.stop < raised self.old.calls → self.new.inner ≡ self.old.inner }
-        ensures tears { self.old.stop ≡ raised self.old.calls → Tears self.old.torn at from.now (D.state self.old.inner) (D.state self.new.inner) }
+        ensures tears { self.old.stop ≡ raised self.old.calls
+            → Tears self.old.torn at from.now (D.state self.old.inner) (D.state self.new.inner) }
         ensures goes { Goes (stopped (D.state self.old.inner) self.old.writes self.old.faults) (stopped (D.state self.new.inner) self.new.writes self.new.faults) }
         ensures fault { OnErr result (Rose (stopped (D.state self.old.inner) self.old.writes self.old.faults).faults (stopped (D.state self.new.inner) self.new.writes self.new.faults).faults) }
         ensures calls { self.new.calls ≡ raised self.old.calls }
