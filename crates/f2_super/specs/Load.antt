@@ -37,8 +37,8 @@ OrFault answer is = answer ≡ is
 abbrev pub repaired : Found → Image → Image
 repaired f image = let other = 1 - f.copy in slice_set image other (take 1024 (block_at image other) ++ f.sup)
 
--- A repair that was done, not done or cut short: the other copy's block is the new one, the old one or torn, and no other
--- block differs.
+-- A repair that was done, not done or cut short: the other copy's block is the new one, the old one or torn, and no
+-- other block differs.
 abbrev pub IsRepairing : Found → Image → Image → Type 0
 IsRepairing f old new = let other = 1 - f.copy in Lands other (take 1024 (block_at old other) ++ f.sup) old new
 

@@ -156,8 +156,8 @@ pub fn repair<D: Disk>(d: &mut D, f: &Found) -> Result<(), DiskFault>
     ensures durable { OnOk result ((D.state d.new).pending ≡ false) }
     ensures counted { OnOk result (Rose (D.state d.old).writes (D.state d.new).writes) }
 
-    // Whatever it answers, no block differs but the other copy's: that is the old one, the new one, or torn where a write
-    // was cut short.
+    // Whatever it answers, no block differs but the other copy's: that is the old one, the new one, or torn where a
+    // write was cut short.
     ensures either { (image : Image) → (D.state d.old).told ≡ Some image
         → (now : Image) × ((D.state d.new).told ≡ Some now) × IsRepairing f.now image now }
 
