@@ -61,12 +61,15 @@ IsOutside l start end segment = (end ≤ segment_start l segment) ⊎ (segment_s
 unfoldable pub moves_along : Layout → ℕ → Moves → List (List ℕ) → List Move
 moves_along l nids m [] = []
 moves_along l nids m (addresses ∷ rest) =
-    (if length (occupied nids m.placed addresses) == 0 then [] else batch_moves l nids addresses m.targets m.placed) ++ moves_along l nids (after_batch l nids m addresses) rest
+    (if length (occupied nids m.placed addresses) == 0 then [] else batch_moves l nids addresses m.targets m.placed)
+    ++ moves_along l nids (after_batch l nids m addresses) rest
 
 -- those that empty a range
 unfoldable pub all_moves : Image → ℕ → ℕ → ℕ → Bool → List Move
 all_moves image start end target down =
-    moves_along (layout image) (nid_limit (layout image)) (record { placed = placement image; targets = defrag_targets image start end target down; blocks = 0; batches = 0 }) (defrag_batches image start end)
+    moves_along (layout image) (nid_limit (layout image))
+    (record { placed = placement image; targets = defrag_targets image start end target down; blocks = 0; batches = 0 })
+    (defrag_batches image start end)
 
 -- ---- what stays
 
@@ -103,7 +106,8 @@ pub record IsOnWay (image : Image) (start end target : ℕ) (down : Bool) (targe
   pub leads : moves_after (layout image) (nid_limit (layout image)) moves rest ≡ defrag_moves image start end target down
   pub done : List Move
   pub followed : HasFollowed done image now
-  pub ahead : done ++ moves_along (layout image) (nid_limit (layout image)) moves rest ≡ all_moves image start end target down
+  pub ahead : done ++ moves_along (layout image) (nid_limit (layout image)) moves rest
+      ≡ all_moves image start end target down
   pub next_free : 1 ≤ moved.batches → next_free_nid (head now) ≡ least_free_nid now
   pub left : moves.targets ≡ targets
   pub blocks : moves.blocks ≡ moved.blocks
