@@ -45,8 +45,8 @@ module _ (image : Image) (start end target : ℕ) (down : Bool) (main : (layout 
     followed = subst (HasFollowed w.done image) (sym idle.same) w.followed;
     ahead = ap (λ (ms : List Move). w.done ++ ms) (sym (idle_along image start end main inside w.moves part rest now w.reached idle.none)) ∙ w.ahead;
     next_free = λ some.
-        subst (λ (x : Image). next_free_nid (head x) ≡ least_free_nid x) (sym idle.same)
-        (w.next_free (subst (λ n. 1 ≤ n) (rw idle.blocks (omega arith)) some));
+        let same : (moved_with moved step).batches ≡ moved.batches = rw idle.blocks (omega arith) in
+        subst (λ (x : Image). next_free_nid (head x) ≡ least_free_nid x) (sym idle.same) (w.next_free (subst (λ n. 1 ≤ n) same some));
     left = w.left ∙ ap (λ n. drop n targets) (sym idle.taken);
     blocks = let same = w.blocks in let none = idle.blocks in omega (arith, same, none);
     batches = w.batches ∙ sym (rw idle.blocks (omega arith));
