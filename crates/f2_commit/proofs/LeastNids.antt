@@ -12,8 +12,7 @@ use Rattle.f2_bytes.proofs.Finds.{find-some, find-none}
 use Rattle.f2_pack.specs.Held.{Held}
 use Rattle.f2_tables.specs.Tables.{NatTable, OpensNat}
 use Rattle.f2_view.specs.Mounted.{Mounted, layout_in}
-use Rattle.f2_commit.specs.FreeNids.{IsFirstFree}
-use Rattle.f2_commit.specs.Moves.{least_free_nid}
+use Rattle.f2_commit.specs.FreeNids.{IsFirstFree, least_free_nid}
 use Rattle.f2_commit.proofs.MoveNids.{least_free_nid-entries}
 
 -- a table that was opened with what a mount keeps

@@ -1,3 +1,10 @@
+pub mod FollowBatch
+pub mod FollowKinds
+pub mod FollowLaw
+pub mod FollowMoves
+pub mod FollowNothing
+pub mod FollowSteps
+pub mod FollowWords
 pub mod FreeCounts
 pub mod LeastNids
 pub mod LeftAddresses

@@ -12,6 +12,7 @@ use Rattle.f2_pack.specs.declared.writing.NewPack.{NewPack}
 use Rattle.f2_change.specs.declared.change.Change.{Change}
 use Rattle.f2_change.specs.Carried.{Carries}
 use Rattle.f2_commit.specs.Moves.{MovesBatch, AreTargets, AreSamePlaces, HasMoved}
+use Rattle.f2_commit.proofs.FollowBatch.{batch_followed, batch_next}
 use Rattle.f2_commit.proofs.MoveBatch.{moves_batch, batch_keeps_tree}
 use Rattle.f2_commit.proofs.MoveFree.{rest_free}
 use Rattle.f2_commit.proofs.MovePlacement.{placed}
@@ -40,6 +41,8 @@ batch_moves image new addresses targets c p h bytes rises mains free m s =
       overprovision = s.overprovision;
       no_nat_journal = s.no_nat_journal;
       no_sit_journal = s.no_sit_journal;
+      followed = batch_followed image new addresses targets c p h mains free m s blocks;
+      next_free = batch_next image new addresses targets c p h mains free m s blocks;
     }
 
 -- from places that are the image's, the batch leads to the places of the new image

@@ -130,11 +130,11 @@ module _ (image new : Image) (addresses targets : List ℕ) (c : Change) (p : Ne
 
   -- ---- types
 
-  new_kind : (x : ℕ) → is_main (layout image) x ≡ true → kind_at new x ≡ (sit_after image c (segment_of (layout image) x)).kind
+  pub new_kind : (x : ℕ) → is_main (layout image) x ≡ true → kind_at new x ≡ (sit_after image c (segment_of (layout image) x)).kind
   new_kind x main =
       ap (λ l. (sit new (segment_of l x)).kind) s.areas ∙ ap (λ e. e.kind) (sit-moved image new addresses targets c p m s (segment_of (layout image) x) (segment_below (layout image) x main))
 
-  kept_kind : (a : ℕ) → is_used image a ≡ true → to a ≡ a → kind_at new (to a) ≡ kind_at image a
+  pub kept_kind : (a : ℕ) → is_used image a ≡ true → to a ≡ a → kind_at new (to a) ≡ kind_at image a
   kept_kind a used same =
       let main = (and_parts (is_main (layout image) a) (is_data image a || is_node image a) used).0 in
       ap (kind_at new) same ∙ new_kind a main ∙ m.old_kinds (segment_of (layout image) a) (support_not_free image a main (used_support image h a used))

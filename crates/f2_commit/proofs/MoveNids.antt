@@ -9,7 +9,7 @@ use Rattle.f2_bytes.specs.Bytes.{Image}
 use Rattle.f2_bytes.specs.Superblock.{layout}
 use Rattle.f2_bytes.specs.NodeAddressTable.{nid_limit, nat, image_nat_entry}
 use Rattle.f2_bytes.proofs.AllPlaces.{find_same}
-use Rattle.f2_commit.specs.Moves.{least_free_nid}
+use Rattle.f2_commit.specs.FreeNids.{least_free_nid}
 
 -- a number of the table is no node's where its entry has no address
 no_node : (image : Image) (nid : ℕ) → 3 ≤ nid → nid < nid_limit (layout image) → is_none (nat image nid) ≡ ((image_nat_entry image nid).address == 0)

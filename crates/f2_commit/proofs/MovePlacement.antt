@@ -54,7 +54,7 @@ module _ (image : Image) (h : is_checked image ≡ true) (addresses : List ℕ) 
   to = new_address image addresses targets
 
   -- no node stands at a slot's address, nor at 0
-  no_node : (a : ℕ) → ((is_main (layout image) a ≡ true) × (is_node image a ≡ true) → ⊥) → nid_with image a ≡ None
+  pub no_node : (a : ℕ) → ((is_main (layout image) a ≡ true) × (is_node image a ≡ true) → ⊥) → nid_with image a ≡ None
   no_node a never = go (nid_with image a) refl
     where
       go : (o : Option ℕ) → nid_with image a ≡ o → o ≡ None
@@ -70,7 +70,7 @@ module _ (image : Image) (h : is_checked image ≡ true) (addresses : List ℕ) 
   -- ---- extents
 
   -- a block that moves does
-  data_leaves : (n : ℕ) → n < length (moved_data image addresses) → to (get_or (moved_data image addresses) n 0) ≡ get_or (moved_data image addresses) n 0 → ⊥
+  pub data_leaves : (n : ℕ) → n < length (moved_data image addresses) → to (get_or (moved_data image addresses) n 0) ≡ get_or (moved_data image addresses) n 0 → ⊥
   data_leaves n low same = by_put (put_at (layout image) targets (moved_data image addresses) a) refl
     where
       a : ℕ

@@ -1,5 +1,5 @@
 -- A batch moves the same where everything stands at the same places.
-use Rattle.std.proofs.Common.{◌≡◌, ℕ, ◌+◌, inl, inr, List, false, ◌==◌, ◌&&◌, ◌||◌, cond, filter, length, All, Option, Some, None, refl, sym, ap, ◌∙◌}
+use Rattle.std.proofs.Common.{◌≡◌, ℕ, ◌+◌, inl, inr, List, ◌++◌, false, ◌==◌, ◌&&◌, ◌||◌, cond, filter, map, length, All, Option, Some, None, refl, sym, ap, ◌∙◌}
 use Rattle.std.specs.Prelude.{drop, option_map, unwrap_or}
 use Rattle.std.specs.Option.{option_map_or}
 use Rattle.std.specs.List.{list_any}
@@ -9,6 +9,7 @@ use Rattle.std.proofs.lemmas.List.Folds.{Any-from_list_any}
 use Rattle.f2_bytes.specs.declared.layout.Layout.{Layout}
 use Rattle.f2_bytes.specs.Bytes.{numbers_below, quotient_up}
 use Rattle.f2_bytes.specs.Defragment.{Placement, all_places, is_among, data_among, is_covered, nodes_among, batch_need, put_at, moved_batch, occupied}
+use Rattle.f2_commit.specs.Following.{batch_moves}
 use Rattle.f2_commit.specs.Moves.{AreSamePlaces}
 use Rattle.f2_commit.proofs.MoveTargets.{put_number}
 
@@ -72,6 +73,15 @@ module _ (nids : ℕ) (p q : Placement) (same : AreSamePlaces p q) (addresses : 
   occupied_same = λ i.
       filter (λ a. list_any (λ place. same.slots place.0 place.1 i == a) (all_places nids)
       || list_any (λ nid. option_map_or (λ x. x == a) (same.nodes nid i) false) (numbers_below nids)) addresses
+
+  pub moves_same : (l : Layout) (targets : List ℕ) → batch_moves l nids addresses targets q ≡ batch_moves l nids addresses targets p
+  unfolding batch_moves
+  moves_same l targets = λ i.
+      map (λ a. record { from = a; to = unwrap_or (put_at l targets (data_same i) a) a }) (data_same i)
+      ++ map (λ nid. record {
+        from = unwrap_or (same.nodes nid i) 0;
+        to = unwrap_or (put_at l (drop (quotient_up (length (data_same i)) 512) targets) (nodes_same i) nid) (unwrap_or (same.nodes nid i) 0);
+      }) (nodes_same i)
 
   pub batch_same : (l : Layout) (targets : List ℕ) → AreSamePlaces (moved_batch l nids addresses targets p) (moved_batch l nids addresses targets q)
   unfolding moved_batch

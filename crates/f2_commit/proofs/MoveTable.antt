@@ -72,7 +72,7 @@ module _ (image new : Image) (addresses targets : List ℕ) (c : Change) (p : Ne
       by (inl same) = same
       by (inr t) = absurd (by_takes t.0 t.2)
 
-  entry_after : (nid : ℕ) → nid < nid_limit (layout image) → image_nat_entry new nid ≡ cond (is_among (moved_nodes image addresses) nid) (moved_entry to (image_nat_entry image nid)) (image_nat_entry image nid)
+  pub entry_after : (nid : ℕ) → nid < nid_limit (layout image) → image_nat_entry new nid ≡ cond (is_among (moved_nodes image addresses) nid) (moved_entry to (image_nat_entry image nid)) (image_nat_entry image nid)
   entry_after nid low =
       s.nat_entries nid low
       ∙ ap (λ o. unwrap_or o (image_nat_entry image nid)) (m.entries nid low)

@@ -1,14 +1,14 @@
 -- One batch of moves, as a change of an image.
-use Rattle.std.specs.Prelude.{◌≡◌, ℕ, ◌+◌, ◌-◌, ◌*◌, ◌<◌, ◌≤◌, Bool, not, ◌&&◌, ◌||◌, ◌==◌, if◌then◌else◌, List, [], get_or, length, drop, find, Some, None, unwrap_or, is_none, IsTrue, IsFalse}
+use Rattle.std.specs.Prelude.{◌≡◌, ℕ, ◌+◌, ◌-◌, ◌*◌, ◌<◌, ◌≤◌, Bool, not, ◌&&◌, ◌||◌, ◌==◌, if◌then◌else◌, List, [], get_or, length, drop, Some, None, unwrap_or, IsTrue, IsFalse}
 use Rattle.std.specs.Option.{option_map_or}
-use Rattle.std.specs.List.{list_any, range_with_len, All}
+use Rattle.std.specs.List.{list_any, All}
 use Rattle.f2_bytes.specs.Bits.{bit_msb}
 use Rattle.f2_bytes.specs.Bytes.{Block, Image, block_at, numbers_below, count_below, quotient_up}
-use Rattle.f2_bytes.specs.Checkpoint.{head, log, is_log_segment, user_block_count, valid_block_count, rsvd_segment_count, overprov_segment_count, valid_node_count, valid_inode_count}
+use Rattle.f2_bytes.specs.Checkpoint.{head, log, is_log_segment, user_block_count, valid_block_count, rsvd_segment_count, overprov_segment_count, valid_node_count, valid_inode_count, next_free_nid}
 use Rattle.f2_bytes.specs.Check.{is_checked, nid_with}
 use Rattle.f2_bytes.specs.Defragment.{Placement, placement, is_among, data_among, nodes_among, data_segments, batch_need, put_at, target_block, moved_batch}
 use Rattle.f2_bytes.specs.Journal.{SitEntry}
-use Rattle.f2_bytes.specs.NodeAddressTable.{nid_limit, nat, image_nat_entry, nat_journal}
+use Rattle.f2_bytes.specs.NodeAddressTable.{nid_limit, image_nat_entry, nat_journal}
 use Rattle.f2_bytes.specs.SegmentTable.{sit, is_block_valid, sit_journal}
 use Rattle.f2_bytes.specs.Summary.{Summary, summary, summary_entry, entry_type}
 use Rattle.f2_bytes.specs.Superblock.{layout, segment_start}
@@ -18,6 +18,8 @@ use Rattle.f2_change.specs.declared.change.Change.{Change}
 use Rattle.f2_change.specs.Change.{given, nat_given, sit_given, log_at}
 use Rattle.f2_bytes.specs.Tree.{tree}
 use Rattle.f2_bytes.specs.Moved.{IsMovedNode, IsMoved, moved_entry}
+use Rattle.f2_commit.specs.FreeNids.{least_free_nid}
+use Rattle.f2_commit.specs.Following.{HasFollowed, batch_moves}
 
 -- the data blocks that move with the blocks at these addresses, and the nodes
 abbrev pub moved_data : Image → List ℕ → List ℕ
@@ -77,10 +79,6 @@ sit_after image c segment = unwrap_or (sit_given c.sit.items segment) (sit image
 abbrev pub node_summary : ℕ → Summary
 node_summary n = record { nid = n; version = 0; place = 0 }
 
--- where a new node is looked for: the least number from 4 on that no node has, or 4
-unfoldable pub least_free_nid : Image → ℕ
-least_free_nid image = unwrap_or (find (λ nid. is_none (nat image nid)) (range_with_len 4 (nid_limit (layout image) - 4))) 4
-
 -- The change that moves a batch to its targets.
 pub record MovesBatch (image : Image) (addresses targets : List ℕ) (c : Change) : Type 0 where
   -- the moved nodes, and no others, get their new addresses
@@ -133,3 +131,7 @@ pub record HasMoved (image new : Image) (addresses targets : List ℕ) : Type 0 
   pub overprovision : overprov_segment_count (head new) ≡ overprov_segment_count (head image)
   pub no_nat_journal : nat_journal new ≡ []
   pub no_sit_journal : sit_journal new ≡ []
+  -- all that names the blocks has followed, and a new node is looked for from the least free number on
+  pub followed : HasFollowed (batch_moves (layout image) (nid_limit (layout image)) addresses targets (placement image))
+      image new
+  pub next_free : next_free_nid (head new) ≡ least_free_nid new

@@ -21,7 +21,8 @@ use Rattle.f2_change.specs.declared.change.Change.{Change}
 use Rattle.f2_gather.specs.declared.gathering.MovedBlock.{MovedBlock}
 use Rattle.f2_change.specs.Change.{log_at}
 use Rattle.f2_gather.specs.Gathering.{addresses_of, moved_block}
-use Rattle.f2_commit.specs.Moves.{moved_data, moved_nodes, node_summary, least_free_nid}
+use Rattle.f2_commit.specs.FreeNids.{least_free_nid}
+use Rattle.f2_commit.specs.Moves.{moved_data, moved_nodes, node_summary}
 
 -- ---- the blocks
 

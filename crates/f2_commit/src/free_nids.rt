@@ -5,8 +5,7 @@ ghost use Rattle.f2_bytes.specs.Journal.{nat_entry_at as entry_of_bytes};
 ghost use Rattle.f2_disk.specs.Disk.{Reads, Goes, Rose};
 ghost use Rattle.f2_tables.specs.Tables.{nat_in};
 ghost use Rattle.f2_view.specs.Mounted.{layout_in, IsMountOf};
-ghost use Rattle.f2_commit.specs.FreeNids.{IsFirstFree};
-ghost use Rattle.f2_commit.specs.Moves.{least_free_nid as least_of};
+ghost use Rattle.f2_commit.specs.FreeNids.{IsFirstFree, least_free_nid as least_of};
 
 use crate::ShiftRefusal;
 use f2_disk::{Block, Disk};

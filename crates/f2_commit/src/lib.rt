@@ -4,6 +4,7 @@
 #![tactic(auto)]
 
 mod free_nids;
+mod laws;
 mod moved_blocks;
 mod moved_nodes;
 mod moved_segments;
@@ -14,6 +15,7 @@ mod shifting;
 pub use f2_change::{Change, Counts, PrepareRefusal, Ready, commit, prepare};
 pub use f2_free::{ChainNode, chain_nodes, counting, free};
 pub use f2_gather::{Weight, weigh};
+pub use laws::{free_segments_spare_their_summaries, moves_follow_each_other};
 pub use relocating::{Moved, RelocRefusal};
 pub use shift_refusal::ShiftRefusal;
 pub use shifting::shift;

@@ -1,5 +1,5 @@
 -- A batch is the same with the addresses alone at which something stands.
-use Rattle.std.proofs.Common.{◌≡◌, ℕ, ◌+◌, ◌<◌, ◌≤◌, List, [], ◌∷◌, Bool, true, false, ◌==◌, ◌&&◌, ◌||◌, cond, filter, length, get_or, All, Option, Some, None, refl, sym, ap, ◌∙◌, ⊎_elim, arith}
+use Rattle.std.proofs.Common.{◌≡◌, ℕ, ◌+◌, ◌<◌, ◌≤◌, List, [], ◌∷◌, ◌++◌, Bool, true, false, ◌==◌, ◌&&◌, ◌||◌, cond, filter, map, length, get_or, All, Option, Some, None, refl, sym, ap, ◌∙◌, ⊎_elim, arith}
 use Rattle.std.specs.Prelude.{drop, option_map, unwrap_or}
 use Rattle.std.specs.Option.{option_map_or}
 use Rattle.std.specs.List.{list_any}
@@ -12,6 +12,7 @@ use Rattle.f2_bytes.specs.Defragment.{Placement, all_places, is_among, data_amon
 use Rattle.f2_bytes.proofs.AllPlaces.{All-below}
 use Rattle.f2_bytes.proofs.Below.{found_below, some_below, length-numbers_below}
 use Rattle.f2_gather.proofs.Ascending.{bools_same}
+use Rattle.f2_commit.specs.Following.{batch_moves}
 use Rattle.f2_commit.proofs.MoveAmong.{any_filter, among_kept}
 use Rattle.f2_reloc.proofs.Standing.{has_slot, has_node, stands, filter_same}
 
@@ -102,6 +103,15 @@ module _ (nids : ℕ) (p : Placement) (xs : List ℕ) where
     holder = p.holder;
     extent = λ ino. cond (list_any (is_covered (p.extent ino)) (occupied_data i)) (0, 0) (p.extent ino);
   }
+
+  pub occupied_moves : (l : Layout) (targets : List ℕ) → batch_moves l nids (occupied nids p xs) targets p ≡ batch_moves l nids xs targets p
+  unfolding batch_moves
+  occupied_moves l targets = λ i.
+      map (λ a. record { from = a; to = unwrap_or (put_at l targets (occupied_data i) a) a }) (occupied_data i)
+      ++ map (λ nid. record {
+        from = unwrap_or (p.node nid) 0;
+        to = unwrap_or (put_at l (drop (quotient_up (length (occupied_data i)) 512) targets) (occupied_nodes i) nid) (unwrap_or (p.node nid) 0);
+      }) (occupied_nodes i)
 
   -- what stands at one of the addresses moves
   pub slot_moves : (a : ℕ) → is_among xs a ≡ true → has_slot nids p a ≡ true → is_among (data_among nids p xs) a ≡ true

@@ -1,5 +1,5 @@
 -- One batch more: what stands after it.
-use Rattle.std.proofs.Common.{◌≡◌, ℕ, ◌+◌, ◌*◌, ◌/◌, ◌<◌, ◌≤◌, List, [], ◌∷◌, true, false, ◌==◌, ◌||◌, length, sum_by, All, refl, sym, ap, subst, ◌∙◌, ⊎_elim, arith}
+use Rattle.std.proofs.Common.{◌≡◌, ℕ, ◌+◌, ◌*◌, ◌/◌, ◌<◌, ◌≤◌, List, [], ◌∷◌, ◌++◌, true, false, cond, ◌==◌, ◌||◌, length, sum_by, All, refl, sym, ap, subst, ◌∙◌, ⊎_elim, arith}
 use Rattle.std.specs.Prelude.{drop}
 use Rattle.std.specs.Option.{option_map_or}
 use Rattle.std.specs.List.{list_any}
@@ -14,12 +14,13 @@ use Rattle.f2_bytes.specs.NodeAddressTable.{nid_limit}
 use Rattle.f2_bytes.specs.Check.{is_marked}
 use Rattle.f2_bytes.specs.Support.{is_free}
 use Rattle.f2_bytes.specs.Defragment.{Placement, placement, all_places, is_among, occupied, batch_need, move_need, moved_batch, Moves, after_batch, moves_after, main_end}
+use Rattle.f2_commit.specs.Following.{Move, batch_moves, HasFollowed}
 use Rattle.f2_commit.specs.Moves.{AreSamePlaces, HasMoved}
 use Rattle.f2_commit.proofs.MoveDone.{away_from_hole, batch_placed}
-use Rattle.f2_commit.proofs.MoveSame.{need_same, occupied_same}
-use Rattle.f2_reloc.specs.Emptying.{IsOutside, HasKept, HasReached, IsReady, valid_among}
+use Rattle.f2_commit.proofs.MoveSame.{need_same, occupied_same, moves_same}
+use Rattle.f2_reloc.specs.Emptying.{IsOutside, HasKept, HasReached, IsReady, valid_among, moves_along}
 use Rattle.f2_reloc.proofs.Leaving.{IsAway, stood, left, later_few, later_less}
-use Rattle.f2_reloc.proofs.Occupied.{among_filter, some_length, no_need, occupied_need, occupied_moved}
+use Rattle.f2_reloc.proofs.Occupied.{among_filter, some_length, no_need, occupied_need, occupied_moved, occupied_moves}
 use Rattle.f2_reloc.proofs.Standing.{stands, marked_stands, occupied_marked}
 
 pub sum_less : (f g : List ℕ → ℕ) (xs : List (List ℕ)) → All (λ x. f x ≤ g x) xs → sum_by f xs ≤ sum_by g xs
@@ -109,6 +110,12 @@ module _ (image : Image) (start end : ℕ) (main : (layout image).main ≤ start
         let empty : length (occupied nids m.placed part) ≡ 0 = ap length (sym valid_is ∙ none) in
         rw empty refl
 
+    pub idle_along : moves_along l nids m (part ∷ rest) ≡ moves_along l nids m rest
+    unfolding moves_along
+    idle_along =
+        let empty : length (occupied nids m.placed part) ≡ 0 = ap length (sym valid_is ∙ none) in
+        (λ i. cond (empty i == 0) [] (batch_moves l nids part m.targets m.placed) ++ moves_along l nids (idle_same i) rest)
+
     pub idle_reached : HasReached image start end m rest now
     idle_reached = record {
       kept = r.kept;
@@ -137,6 +144,23 @@ module _ (image : Image) (start end : ℕ) (main : (layout image).main ≤ start
 
     pub done_is : after_batch l nids m part ≡ next
     done_is = cond-false (length (occupied nids m.placed part) == 0) m next (ne_eqb (length (occupied nids m.placed part)) 0 (λ e. let count = ap length (sym valid_is) in omega (arith, e, count, some)))
+
+    -- the moves of the batch, and then those of the rest
+    pub done_along : moves_along l nids m (part ∷ rest) ≡ batch_moves l nids part m.targets m.placed ++ moves_along l nids next rest
+    unfolding moves_along
+    done_along =
+        let some_there : (length (occupied nids m.placed part) == 0) ≡ false = ne_eqb (length (occupied nids m.placed part)) 0 (λ e. let count = ap length (sym valid_is) in omega (arith, e, count, some)) in
+        (λ i. cond (some_there i) [] (batch_moves l nids part m.targets m.placed) ++ moves_along l nids (done_is i) rest)
+
+    -- all has followed them
+    pub done_followed : HasFollowed (batch_moves l nids part m.targets m.placed) now new
+    done_followed =
+        let same : batch_moves (layout now) (nid_limit (layout now)) valid m.targets (placement now) ≡ batch_moves l nids part m.targets m.placed
+        = (λ i. batch_moves (r.kept.areas i) (nid_limit (r.kept.areas i)) valid m.targets (placement now))
+        ∙ moves_same nids m.placed (placement now) r.placed valid (away_from_hole now r.kept.checked valid valid_main) l m.targets
+        ∙ ap (λ (xs : List ℕ). batch_moves l nids xs m.targets m.placed) valid_is
+        ∙ occupied_moves nids m.placed part l m.targets in
+        subst (λ (ms : List Move). HasFollowed ms now new) same moved.followed
 
     all_away : (a : ℕ) → start ≤ a → a < end → IsAway l m.targets a
     all_away = away l start end m.targets r.outside
@@ -220,11 +244,12 @@ module _ (image : Image) (start end : ℕ) (main : (layout image).main ≤ start
 
 -- where no segment is needed for the batches that remain, none has a block
 pub no_moves : (image : Image) (start end : ℕ) → (layout image).main ≤ start → end ≤ main_end (layout image) → (m : Moves) (rest : List (List ℕ)) (now : Image) → HasReached image start end m rest now
-    → move_need (nid_limit (layout image)) m.placed rest ≡ 0 → HasReached image start end m [] now × (moves_after (layout image) (nid_limit (layout image)) m rest ≡ m)
-unfolding moves_after
-no_moves image start end main inside m [] now r none = (r, refl)
+    → move_need (nid_limit (layout image)) m.placed rest ≡ 0
+    → HasReached image start end m [] now × (moves_after (layout image) (nid_limit (layout image)) m rest ≡ m) × (moves_along (layout image) (nid_limit (layout image)) m rest ≡ [])
+unfolding moves_after moves_along
+no_moves image start end main inside m [] now r none = (r, refl, refl)
 no_moves image start end main inside m (part ∷ rest) now r none =
     let parts = need_parts (nid_limit (layout image)) m.placed part rest in
     let empty : valid_among now part ≡ [] = valid_is image start end main inside m part rest now r ∙ no_need (nid_limit (layout image)) m.placed part (omega (arith, none, parts)) in
     let later = no_moves image start end main inside m rest now (idle_reached image start end main inside m part rest now r empty) (omega (arith, none, parts)) in
-    (later.0, ap (λ (x : Moves). moves_after (layout image) (nid_limit (layout image)) x rest) (idle_same image start end main inside m part rest now r empty) ∙ later.1)
+    (later.0, ap (λ (x : Moves). moves_after (layout image) (nid_limit (layout image)) x rest) (idle_same image start end main inside m part rest now r empty) ∙ later.1, idle_along image start end main inside m part rest now r empty ∙ later.2)

@@ -1,24 +1,31 @@
 -- The way from the first batch of a range to its end.
-use Rattle.std.proofs.Common.{◌≡◌, ℕ, ◌+◌, ◌<◌, ◌≤◌, inl, inr, List, [], ◌∷◌, Bool, true, false, ◌==◌, ◌||◌, nat_le, filter, length, get_or, All, refl, sym, ap, subst, ◌∙◌, ⊎_elim, arith}
+use Rattle.std.proofs.Common.{◌≡◌, ℕ, ◌+◌, ◌<◌, ◌≤◌, inl, inr, List, [], ◌∷◌, ◌++◌, append_assoc, append_nil, Bool, true, false, ◌==◌, ◌||◌, nat_le, filter, length, get_or, All, refl, sym, ap, subst, ◌∙◌, ⊎_elim, arith}
 use Rattle.std.specs.Prelude.{drop}
 use Rattle.std.specs.List.Sorted.{IsStrictlyIncreasing}
-use Rattle.std.proofs.lemmas.Bool.{or_cases, leb-true, ne_eqb, cond-false, false_from_ne_true, false≢true}
+use Rattle.std.proofs.lemmas.Bool.{and_parts, or_cases, leb-true, ne_eqb, cond-false, false_from_ne_true, false≢true}
 use Rattle.std.proofs.lemmas.List.Elements.{All-filter, All-weaker, filter_passes}
 use Rattle.std.proofs.lemmas.List.Kept.{IsStrictlyIncreasing-filter}
-use Rattle.f2_bytes.specs.Bytes.{Image, numbers_below}
-use Rattle.f2_bytes.specs.Superblock.{layout, segment_start, segment_of}
+use Rattle.f2_bytes.specs.declared.layout.Layout.{Layout}
+use Rattle.f2_bytes.specs.Bytes.{Image, IsBlock, block_at, numbers_below}
+use Rattle.f2_bytes.specs.Checkpoint.{head, next_free_nid}
+use Rattle.f2_bytes.specs.Superblock.{layout, is_main, segment_start, segment_of}
 use Rattle.f2_bytes.specs.NodeAddressTable.{nid_limit}
-use Rattle.f2_bytes.specs.Check.{is_checked}
+use Rattle.f2_bytes.specs.Check.{is_checked, is_marked}
 use Rattle.f2_bytes.specs.Support.{is_free, free_segments}
 use Rattle.f2_bytes.specs.Defragment.{placement, occupied, batch_need, move_need, moved_batch, move_targets, Moves, moves_after, main_end, defrag_batches, defrag_targets, defrag_need, defrag_have, defrag_moves}
+use Rattle.f2_bytes.proofs.ValidAddresses.{valid_none}
+use Rattle.f2_commit.specs.Following.{Move, batch_moves, HasFollowed}
+use Rattle.f2_commit.specs.FreeNids.{least_free_nid}
 use Rattle.f2_commit.specs.Moves.{AreSamePlaces, HasMoved}
+use Rattle.f2_commit.proofs.FollowLaw.{moves_follow_each_other}
+use Rattle.f2_commit.proofs.FollowNothing.{nothing_followed}
 use Rattle.f2_commit.proofs.MoveSame.{same_places-refl}
-use Rattle.f2_reloc.specs.Emptying.{IsOutside, HasReached, IsOnWay, IsReady, IsIdle, IsDone, HasStepped, IsEmptied, valid_among, moved_with}
+use Rattle.f2_reloc.specs.Emptying.{IsOutside, HasReached, IsOnWay, IsReady, IsIdle, IsDone, HasStepped, IsEmptied, valid_among, moved_with, moves_along, all_moves}
 use Rattle.f2_commit.specs.declared.relocating.Moved.{Moved}
 use Rattle.f2_reloc.specs.declared.moving.Step.{Step}
 use Rattle.f2_reloc.proofs.Cuts.{batches_few, batches_have, batches_within}
 use Rattle.f2_reloc.proofs.Distinct.{AreDifferent, different_from_rising, different-reverse, All-reverse, numbers_rise}
-use Rattle.f2_reloc.proofs.Progress.{ready, idle_same, idle_reached, done_is, done_reached, done_count, done_left, no_moves}
+use Rattle.f2_reloc.proofs.Progress.{ready, idle_same, idle_along, idle_reached, done_is, done_along, done_followed, done_reached, done_count, done_left, no_moves}
 
 -- ---- the way with its numbers
 
@@ -34,6 +41,12 @@ module _ (image : Image) (start end target : ℕ) (down : Bool) (main : (layout 
     moves = w.moves;
     reached = subst (HasReached image start end w.moves rest) (sym idle.same) (idle_reached image start end main inside w.moves part rest now w.reached idle.none);
     leads = ap (λ (x : Moves). moves_after (layout image) (nid_limit (layout image)) x rest) (sym (idle_same image start end main inside w.moves part rest now w.reached idle.none)) ∙ w.leads;
+    done = w.done;
+    followed = subst (HasFollowed w.done image) (sym idle.same) w.followed;
+    ahead = ap (λ (ms : List Move). w.done ++ ms) (sym (idle_along image start end main inside w.moves part rest now w.reached idle.none)) ∙ w.ahead;
+    next_free = λ some.
+        let same : (moved_with moved step).batches ≡ moved.batches = rw idle.blocks (omega arith) in
+        subst (λ (x : Image). next_free_nid (head x) ≡ least_free_nid x) (sym idle.same) (w.next_free (subst (λ n. 1 ≤ n) same some));
     left = w.left ∙ ap (λ n. drop n targets) (sym idle.taken);
     blocks = let same = w.blocks in let none = idle.blocks in omega (arith, same, none);
     batches = w.batches ∙ sym (rw idle.blocks (omega arith));
@@ -42,7 +55,7 @@ module _ (image : Image) (start end target : ℕ) (down : Bool) (main : (layout 
   way_done : (part : List ℕ) (rest : List (List ℕ)) (now : Image) (step : Step) (new : Image) → IsOnWay image start end target down targets moved (part ∷ rest) now → IsDone now part targets step new
       → IsOnWay image start end target down (drop step.targets targets) (moved_with moved step) rest new
   unfolding moves_after
-  way_done part rest now step new w done = go w.moves w.reached w.leads w.left w.blocks w.batches
+  way_done part rest now step new w done = go w.moves w.reached w.leads w.ahead w.left w.blocks w.batches
     where
       counted : (moved_with moved step).batches ≡ moved.batches + 1
       counted = ap (λ n. moved.batches + n) (cond-false (step.blocks == 0) 0 1 (ne_eqb step.blocks 0 (λ e. let some = done.some in omega (arith, e, some))))
@@ -50,9 +63,10 @@ module _ (image : Image) (start end target : ℕ) (down : Bool) (main : (layout 
       taken : batch_need (nid_limit (layout now)) (placement now) (valid_among now part) ≡ step.targets
       taken = sym done.taken
 
-      go : (m : Moves) → HasReached image start end m (part ∷ rest) now → moves_after (layout image) (nid_limit (layout image)) m (part ∷ rest) ≡ defrag_moves image start end target down → m.targets ≡ targets → m.blocks ≡ moved.blocks → m.batches ≡ moved.batches
+      go : (m : Moves) → HasReached image start end m (part ∷ rest) now → moves_after (layout image) (nid_limit (layout image)) m (part ∷ rest) ≡ defrag_moves image start end target down
+          → w.done ++ moves_along (layout image) (nid_limit (layout image)) m (part ∷ rest) ≡ all_moves image start end target down → m.targets ≡ targets → m.blocks ≡ moved.blocks → m.batches ≡ moved.batches
           → IsOnWay image start end target down (drop step.targets targets) (moved_with moved step) rest new
-      go m r leads left blocks batches =
+      go m r leads ahead left blocks batches =
           let has : HasMoved now new (valid_among now part) m.targets = subst (HasMoved now new (valid_among now part)) (sym left) done.moved in
           let count = done.blocks in
           let first = done.some in
@@ -67,6 +81,11 @@ module _ (image : Image) (start end target : ℕ) (down : Bool) (main : (layout 
             };
             reached = done_reached image start end main inside m part rest now r new some has done.areas;
             leads = ap (λ (x : Moves). moves_after (layout image) (nid_limit (layout image)) x rest) (sym (done_is image start end main inside m part rest now r new some has done.areas)) ∙ leads;
+            done = w.done ++ batch_moves (layout image) (nid_limit (layout image)) part m.targets m.placed;
+            followed = moves_follow_each_other w.done (batch_moves (layout image) (nid_limit (layout image)) part m.targets m.placed) image now new w.followed (done_followed image start end main inside m part rest now r new some has done.areas);
+            ahead = append_assoc w.done (batch_moves (layout image) (nid_limit (layout image)) part m.targets m.placed) _
+                ∙ ap (λ (ms : List Move). w.done ++ ms) (sym (done_along image start end main inside m part rest now r new some has done.areas)) ∙ ahead;
+            next_free = λ _. has.next_free;
             left = sym (done_left image start end main inside m part rest now r new some has done.areas) ∙ (λ i. drop (taken i) (left i));
             blocks = omega (arith, blocks, long, count);
             batches = ap (λ n. n + 1) batches ∙ sym counted;
@@ -79,27 +98,54 @@ module _ (image : Image) (start end target : ℕ) (down : Bool) (main : (layout 
 
   -- at its end the range is empty
   pub way_ends : (now : Image) → IsOnWay image start end target down targets moved [] now → defrag_need image start end ≤ defrag_have image start end target down → IsEmptied image start end target down now moved
-  unfolding moves_after
+  unfolding moves_after moves_along
   way_ends now w enough = record {
     kept = w.reached.kept;
     placed = subst (λ (x : Moves). AreSamePlaces x.placed (placement now)) w.leads w.reached.placed;
     blocks = sym w.blocks ∙ ap (λ (x : Moves). x.blocks) w.leads;
     batches = sym w.batches ∙ ap (λ (x : Moves). x.batches) w.leads;
-    empty = λ a low high. false_from_ne_true _ (λ marked. false≢true (w.reached.remain a low high marked));
+    empty = sym (valid_none now start end (λ a low high.
+        false_from_ne_true _ (λ valid. false≢true (w.reached.remain a low high (and_parts (is_main (layout now) a) (is_marked now a) valid).1))));
     enough = enough;
+    followed = subst (λ (ms : List Move). HasFollowed ms image now) (sym (append_nil w.done) ∙ w.ahead) w.followed;
+    next_free = w.next_free;
   }
+
+moves_end : (l : Layout) (nids : ℕ) (m : Moves) → moves_after l nids m [] ≡ m
+unfolding moves_after
+moves_end l nids m = refl
+
+along_end : (l : Layout) (nids : ℕ) (m : Moves) → moves_along l nids m [] ≡ []
+unfolding moves_along
+along_end l nids m = refl
 
 -- where nothing is to move, the way is at its end
 pub way_short : (image : Image) (start end target : ℕ) (down : Bool) (main : (layout image).main ≤ start) (inside : end ≤ main_end (layout image)) (targets : List ℕ) (moved : Moved) (rest : List (List ℕ)) (now : Image)
     → (w : IsOnWay image start end target down targets moved rest now) → move_need (nid_limit (layout image)) w.moves.placed rest ≡ 0 → IsOnWay image start end target down targets moved [] now
-unfolding moves_after
 way_short image start end target down main inside targets moved rest now w none =
     let short = no_moves image start end main inside w.moves rest now w.reached none in
-    record { moves = w.moves; reached = short.0; leads = sym short.1 ∙ w.leads; left = w.left; blocks = w.blocks; batches = w.batches }
+    record {
+      moves = w.moves;
+      reached = short.0;
+      leads = stop w.moves ∙ sym short.1 ∙ w.leads;
+      done = w.done;
+      followed = w.followed;
+      ahead = ap (λ (ms : List Move). w.done ++ ms) (none_along w.moves ∙ sym short.2) ∙ w.ahead;
+      next_free = w.next_free;
+      left = w.left;
+      blocks = w.blocks;
+      batches = w.batches;
+    }
+  where
+    stop : (m : Moves) → moves_after (layout image) (nid_limit (layout image)) m [] ≡ m
+    stop m = moves_end (layout image) (nid_limit (layout image)) m
+
+    none_along : (m : Moves) → moves_along (layout image) (nid_limit (layout image)) m [] ≡ []
+    none_along m = along_end (layout image) (nid_limit (layout image)) m
 
 -- ---- the start
 
-module _ (image : Image) (h : is_checked image ≡ true) (start end target : ℕ) (down : Bool) (main : (layout image).main ≤ start) where
+module _ (image : Image) (h : is_checked image ≡ true) (bytes : (n : ℕ) → n < length image → IsBlock (block_at image n)) (start end target : ℕ) (down : Bool) (main : (layout image).main ≤ start) where
   abbrev batches : List (List ℕ)
   batches = defrag_batches image start end
 
@@ -148,7 +194,7 @@ module _ (image : Image) (h : is_checked image ≡ true) (start end target : ℕ
   -- where the targets are enough, the way starts
   pub way_starts : defrag_need image start end ≤ defrag_have image start end target down
       → IsOnWay image start end target down (defrag_targets image start end target down) (record { blocks = 0; batches = 0 }) (defrag_batches image start end) image
-  unfolding defrag_need defrag_have defrag_moves
+  unfolding defrag_need defrag_have defrag_moves all_moves
   way_starts enough = record {
     moves = record { placed = placement image; targets = defrag_targets image start end target down; blocks = 0; batches = 0 };
     reached = record {
@@ -163,6 +209,10 @@ module _ (image : Image) (h : is_checked image ≡ true) (start end target : ℕ
       remain = λ a low high marked. batches_have (nid_limit (layout image)) (placement image) (layout image) start end main a low high;
     };
     leads = refl;
+    done = [];
+    followed = nothing_followed image h bytes;
+    ahead = refl;
+    next_free = λ some. absurd (omega (arith, some));
     left = refl;
     blocks = refl;
     batches = refl;

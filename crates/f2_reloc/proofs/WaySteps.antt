@@ -3,7 +3,7 @@ use Rattle.std.proofs.Common.{◌≡◌, ℕ, ◌+◌, ◌<◌, ◌≤◌, List,
 use Rattle.std.specs.Prelude.{drop}
 use Rattle.std.proofs.lemmas.List.{drop_more, drop_all, drop-drop}
 use Rattle.f2_bytes.specs.declared.layout.Layout.{Layout}
-use Rattle.f2_bytes.specs.Bytes.{Image}
+use Rattle.f2_bytes.specs.Bytes.{Image, IsBlock, block_at}
 use Rattle.f2_bytes.specs.Check.{is_checked}
 use Rattle.f2_bytes.specs.Superblock.{layout}
 use Rattle.f2_bytes.specs.Defragment.{defrag_batches, defrag_targets, defrag_need, defrag_have}
@@ -22,13 +22,13 @@ module _ (image : Image) (l : Layout) (same : l ≡ layout image) (range : Range
   abbrev pub Way : ℕ → ℕ → Moved → Image → Type 0
   Way taken i moved now = IsOnWay image range.start (end_of range) target down (drop taken targets) moved (map (part_of l range) (drop i batches)) now
 
-  pub ways_start : is_checked image ≡ true → map (part_of l range) batches ≡ defrag_batches image range.start (end_of range) → targets ≡ defrag_targets image range.start (end_of range) target down → defrag_need image range.start (end_of range) ≤ length targets
+  pub ways_start : is_checked image ≡ true → ((n : ℕ) → n < length image → IsBlock (block_at image n)) → map (part_of l range) batches ≡ defrag_batches image range.start (end_of range) → targets ≡ defrag_targets image range.start (end_of range) target down → defrag_need image range.start (end_of range) ≤ length targets
       → IsOnWay image range.start (end_of range) target down targets (record { blocks = 0; batches = 0 }) (map (part_of l range) batches) image
   unfolding defrag_have
-  ways_start h cut chosen enough =
+  ways_start h bytes cut chosen enough =
       subst (λ (ts : List ℕ). IsOnWay image range.start (end_of range) target down ts (record { blocks = 0; batches = 0 }) (map (part_of l range) batches) image) (sym chosen)
       (subst (λ (bs : List (List ℕ)). IsOnWay image range.start (end_of range) target down (defrag_targets image range.start (end_of range) target down) (record { blocks = 0; batches = 0 }) bs image) (sym cut)
-      (way_starts image h range.start (end_of range) target down own.above (subst (λ (ts : List ℕ). defrag_need image range.start (end_of range) ≤ length ts) chosen enough)))
+      (way_starts image h bytes range.start (end_of range) target down own.above (subst (λ (ts : List ℕ). defrag_need image range.start (end_of range) ≤ length ts) chosen enough)))
 
   next : (i : ℕ) (d : Batch) → i < length batches → map (part_of l range) (drop i batches) ≡ part_of l range (get_or batches i d) ∷ map (part_of l range) (drop (i + 1) batches)
   next i d low = ap (map (part_of l range)) (drop_more batches i d low)

@@ -3,7 +3,7 @@ ghost use Rattle.std.specs.Prelude.{◌≡◌, ◌≤◌, ◌<◌, ◌+◌, ◌*
 ghost use Rattle.f2_bytes.specs.Bytes.{Image};
 ghost use Rattle.f2_bytes.specs.Check.{is_checked, is_marked};
 ghost use Rattle.f2_bytes.specs.Checkpoint.{checkpoint_ver};
-ghost use Rattle.f2_bytes.specs.Defragment.{main_end, defrag_batches, defrag_targets, defrag_need, defrag_have};
+ghost use Rattle.f2_bytes.specs.Defragment.{defrag_batches, defrag_targets, defrag_need, defrag_have};
 ghost use Rattle.f2_bytes.specs.Superblock.{layout};
 ghost use Rattle.f2_disk.specs.Disk.{Reads, Goes, Rose, LeavesOnly};
 ghost use Rattle.f2_commit.specs.Moves.{HasSameFiles};
@@ -210,7 +210,8 @@ fn planned<D: Disk>(
 }
 
 /// Empties a range of the main area of a checked image: the blocks that stand there, and the nodes that hold their addresses,
-/// move to free segments outside of it, from the target's on upward, or downward; batch by batch.
+/// move to free segments outside of it, from the target's on upward, or downward; batch by batch. All that names them follows,
+/// as with `shift`.
 ///
 /// Where the range has no valid block nothing is written, and the free segments are not looked for. After `NoSpace` nothing was
 /// written. Whatever it answers, the disk reads as a checked image with the same tree and the same superblock copies, and, where
@@ -226,7 +227,7 @@ pub fn defrag<D: Disk>(
     requires lies { (layout_in m).blocks ≤ (D.state d.old).size }
     requires version { checkpoint_ver m.chosen.head < 2 ^ 62 }
     requires range { IsInside (layout_in m) range }
-    requires target { ((layout_in m).main ≤ target) × (target ≤ main_end (layout_in m)) }
+    requires target { (layout_in m).main ≤ target }
     requires checked { (image : Image) → (D.state d.old).told ≡ Some image → is_checked image ≡ true }
     requires of_image { (image : Image) → (D.state d.old).told ≡ Some image → IsMountOf image m }
     // The range is empty, and the mount that is answered is of the new image.

@@ -35,6 +35,7 @@ renewed old image m c is same counts chosen = record {
   copy = same_copy old image same ∙ is.copy;
   sup = is.sup ∙ sym (same_bytes old image same);
   twin = is.twin ∙ sym (same_twins old image same);
+  supported = is.supported;
   checkpoint = counts;
   chosen = chosen;
 }

@@ -2,7 +2,7 @@
 use Rattle.std.specs.Prelude.{◌≡◌, ℕ, ◌^◌, ◌<◌, ◌≤◌, true, Some}
 use Rattle.f2_bytes.specs.declared.layout.Layout.{Layout}
 use Rattle.f2_bytes.specs.Bytes.{Image, block_at}
-use Rattle.f2_bytes.specs.Superblock.{layout_of, IsInOrder, super_copy, super_bytes, has_twins}
+use Rattle.f2_bytes.specs.Superblock.{layout_of, IsInOrder, super_copy, super_bytes, has_twins, unsupported_features}
 use Rattle.f2_bytes.specs.Checkpoint.{checkpoint_ver, nat_bits, sit_bits, pack, pack_number, has_checkpoint}
 use Rattle.f2_super.specs.declared.loading.Found.{Found}
 use Rattle.f2_super.specs.Load.{IsSound}
@@ -24,6 +24,8 @@ pub record IsMountOf (image : Image) (m : Mounted) : Type 0 where
   pub copy : super_copy image ≡ Some m.found.copy
   pub sup : m.found.sup ≡ super_bytes image
   pub twin : m.found.twin ≡ has_twins image
+  -- it has no feature bit that isn't read
+  pub supported : unsupported_features m.found.sup ≡ 0
   pub checkpoint : has_checkpoint image ≡ true
   pub chosen : m.chosen ≡ chosen_of (pack image) (pack_number image)
 

@@ -9,7 +9,7 @@ use Rattle.f2_view.proofs.TableReadings.{own_layout}
 use Rattle.f2_reloc.specs.Emptying.{end_of, IsInside}
 use Rattle.f2_commit.specs.declared.relocating.RelocRefusal.{RelocRefusal}
 use Rattle.f2_reloc.proofs.Idle.{no_marks}
-use Rattle.f2_reloc.proofs.Rests.{own_files, reads_rest}
+use Rattle.f2_reloc.proofs.Rests.{own_files, reads_rest, whole_blocks}
 use Rattle.f2_reloc.proofs.Steps.{some_has, err_has}
 use Rattle.f2_reloc.proofs.Way.{way_none}
 use Rattle.f2_reloc.proofs.emptying.defrag.Goals as goal
@@ -73,7 +73,7 @@ returns-in-None-clause-emptied g c = λ image told.
       image,
       c.planned.ensures.reads.told ∙ told,
       subst (IsMountOf image) (sym c.planned.ensures.mount) of,
-      way_none image (c.requires.checked image told) c.args.range.start (end_of c.args.range) c.args.target c.args.down inside.above inside.below (c.in_ok-batches.ensures.none c.in-None.is image told),
+      way_none image (c.requires.checked image told) (whole_blocks (g.met.D.Disk.whole c.args.d.now image told)) c.args.range.start (end_of c.args.range) c.args.target c.args.down inside.above inside.below (c.in_ok-batches.ensures.none c.in-None.is image told),
     )
 
 pub returns-in-None-clause-any_moment : goal.returns-in-None-clause-any_moment

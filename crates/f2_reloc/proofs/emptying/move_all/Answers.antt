@@ -11,7 +11,7 @@ use Rattle.f2_view.proofs.TableReadings.{own_layout}
 use Rattle.f2_reloc.specs.Emptying.{part_of, end_of, moved_with, IsReady, HasStepped, IsOnWay}
 use Rattle.f2_reloc.specs.declared.batches.Batch.{Batch}
 use Rattle.f2_commit.specs.declared.relocating.Moved.{Moved}
-use Rattle.f2_reloc.proofs.Rests.{own_files, files_then, told_once, then_same}
+use Rattle.f2_reloc.proofs.Rests.{own_files, files_then, told_once, then_same, whole_blocks}
 use Rattle.f2_reloc.proofs.Steps.{stepped_kept, moved_once}
 use Rattle.f2_reloc.proofs.WaySteps.{ways_start, ways_ready, ways_on, ways_end}
 use Rattle.f2_reloc.proofs.emptying.move_all.Goals as goal
@@ -35,7 +35,7 @@ loop-batch-init g c =
             of,
             own_files image h,
             λ target down chosen enough.
-                ways_start image (layout_in c.args.m) (own_layout image c.args.m of) c.args.range c.requires.range c.args.batches.now c.args.targets.now target down h (c.requires.cut image told) chosen enough,
+                ways_start image (layout_in c.args.m) (own_layout image c.args.m of) c.args.range c.requires.range c.args.batches.now c.args.targets.now target down h (whole_blocks (g.met.D.Disk.whole d image told)) (c.requires.cut image told) chosen enough,
           );
       any_moment = λ calm image told.
           started (g.D.Disk.state d) (HasSameFiles image)
