@@ -1,9 +1,4 @@
-pub mod Beginnings
-pub mod AddressesMet
 pub mod Bounds
+pub mod CleanImages
 pub mod Deciding
 pub mod FewDefects
-pub mod PartsMet
-pub mod MetRules
-pub mod SlotParts
-pub mod Gathered
