@@ -1,8 +1,8 @@
 -- An image that carries a batch of moves has followed them.
-use Rattle.std.proofs.Common.{◌≡◌, ℕ, ◌+◌, ◌*◌, ◌<◌, ◌⊎◌, inl, inr, List, ◌++◌, Bool, true, false, not, ◌==◌, ◌||◌, cond, map, length, get_or, All, Option, Some, None, refl, sym, ap, ◌∙◌, subst, arith}
-use Rattle.std.specs.Prelude.{drop, option_map, unwrap_or}
+use Rattle.std.proofs.Common.{◌≡◌, ℕ, ◌+◌, ◌*◌, ◌<◌, inl, inr, List, ◌++◌, true, false, not, ◌==◌, ◌||◌, cond, map, length, get_or, All, Option, Some, None, refl, sym, ap, ◌∙◌, subst}
+use Rattle.std.specs.Prelude.{option_map, unwrap_or}
 use Rattle.std.specs.List.{list_any}
-use Rattle.std.proofs.lemmas.Bool.{and_parts, and_from, or_left, or_right, eq-eqb, cases_lt, false_from_ne_true, false≢true}
+use Rattle.std.proofs.lemmas.Bool.{and_from, or_left, or_right, eq-eqb, false_from_ne_true}
 use Rattle.std.proofs.lemmas.List.Elements.{All-append, All-map, All-from_get_or}
 use Rattle.std.proofs.lemmas.List.Folds.{list_any-append, list_any_at}
 use Rattle.f2_bytes.specs.Bytes.{Image, block_at}
@@ -11,9 +11,9 @@ use Rattle.f2_bytes.specs.Checkpoint.{head, next_free_nid}
 use Rattle.f2_bytes.specs.Journal.{NatEntry}
 use Rattle.f2_bytes.specs.NodeAddressTable.{nid_limit, nat, image_nat_entry}
 use Rattle.f2_bytes.specs.Tree.{is_inode, tree_slot}
-use Rattle.f2_bytes.specs.Check.{is_checked, is_data, is_node, is_address, kind_at}
+use Rattle.f2_bytes.specs.Check.{is_checked, is_data, kind_at}
 use Rattle.f2_bytes.specs.Moved.{IsMoved, moved_entry, is_used}
-use Rattle.f2_bytes.specs.Defragment.{placement, is_among, data_segments, put_at, target_block}
+use Rattle.f2_bytes.specs.Defragment.{placement, is_among, put_at, target_block}
 use Rattle.f2_bytes.proofs.CheckedUsed.{entry_node, entry_in_main, slot_main, slot_data}
 use Rattle.f2_bytes.proofs.MovedSlots.{moved_slots, reads_moved, slot_below}
 use Rattle.f2_pack.specs.declared.writing.NewPack.{NewPack}

@@ -1,6 +1,6 @@
 -- The types of the segments in which the blocks of a batch stand after it.
-use Rattle.std.proofs.Common.{◌≡◌, ℕ, ◌+◌, ◌/◌, ◌<◌, inl, inr, List, true, false, not, ◌==◌, ◌||◌, cond, get_or, All, refl, sym, ap, ◌∙◌, subst, arith}
-use Rattle.std.proofs.lemmas.Bool.{and_parts, and_from, or_left, or_right, eq-eqb, ne_eqb}
+use Rattle.std.proofs.Common.{◌≡◌, ℕ, ◌+◌, ◌/◌, inl, inr, List, true, false, not, ◌==◌, cond, get_or, All, sym, ap, ◌∙◌, subst, arith}
+use Rattle.std.proofs.lemmas.Bool.{and_from, or_left, or_right, eq-eqb, ne_eqb}
 use Rattle.std.proofs.lemmas.List.{get_or-drop}
 use Rattle.f2_bytes.specs.Bytes.{Image}
 use Rattle.f2_bytes.specs.Superblock.{layout, is_main, segment_of}
@@ -11,7 +11,7 @@ use Rattle.f2_bytes.proofs.CheckedUsed.{entry_node}
 use Rattle.f2_pack.specs.declared.writing.NewPack.{NewPack}
 use Rattle.f2_change.specs.declared.change.Change.{Change}
 use Rattle.f2_change.specs.Carried.{Carries}
-use Rattle.f2_commit.specs.Moves.{MovesBatch, AreTargets, moved_data, moved_nodes, data_target_count, node_targets, new_address, sit_after}
+use Rattle.f2_commit.specs.Moves.{MovesBatch, AreTargets, moved_nodes, data_target_count, new_address, sit_after}
 use Rattle.f2_commit.proofs.MoveAddresses.{nid_with-entry, data_used, data_no_node}
 use Rattle.f2_commit.proofs.MoveLands.{Takes, Goes, goes, takes_low, target_unused, lands-moved}
 use Rattle.f2_commit.proofs.MoveMarks.{new_kind, kept_kind}

@@ -1,20 +1,20 @@
 -- What followed moves, and then more moves, followed all of them.
-use Rattle.std.proofs.Common.{◌≡◌, ◌⊎◌, inl, inr, ℕ, ◌-◌, ◌<◌, List, [], ◌++◌, Bool, true, false, ◌==◌, ◌||◌, cond, Option, Some, None, refl, sym, ap, ◌∙◌, subst, arith}
+use Rattle.std.proofs.Common.{◌≡◌, ◌⊎◌, inl, inr, ℕ, ◌-◌, ◌<◌, List, [], ◌++◌, Bool, true, false, ◌==◌, ◌||◌, cond, Option, Some, None, refl, sym, ap, ◌∙◌, subst}
 use Rattle.std.specs.Prelude.{option_map, find, is_none, unwrap_or}
 use Rattle.std.specs.Option.{option_map_or}
 use Rattle.std.specs.List.{range_with_len}
-use Rattle.f2_bytes.specs.Bytes.{Block, Image, block_at}
+use Rattle.f2_bytes.specs.Bytes.{Image, block_at}
 use Rattle.f2_bytes.specs.Superblock.{layout}
 use Rattle.f2_bytes.specs.Checkpoint.{head, next_free_nid}
 use Rattle.f2_bytes.specs.Journal.{NatEntry}
-use Rattle.f2_bytes.specs.NodeAddressTable.{nid_limit, nat, image_nat_entry}
+use Rattle.f2_bytes.specs.NodeAddressTable.{nid_limit, nat}
 use Rattle.f2_bytes.specs.Tree.{is_inode, tree_slot}
 use Rattle.f2_bytes.specs.Check.{is_address, kind_at}
 use Rattle.f2_bytes.specs.Moved.{moved_entry}
 use Rattle.f2_commit.specs.FreeNids.{least_free_nid}
 use Rattle.f2_commit.specs.Following.{Move, place_after, is_moved, IsFollowedNode, HasKind, HasFollowed}
 use Rattle.f2_commit.specs.Laws.{MovesFollowEachOther}
-use Rattle.f2_commit.proofs.FollowMoves.{place_after-append, is_moved-append, unmoved_stays}
+use Rattle.f2_commit.proofs.FollowMoves.{place_after-append, is_moved-append}
 use Rattle.f2_commit.proofs.FollowWords.{node_followed_twice}
 
 -- what a table with other addresses says of inodes and of free numbers

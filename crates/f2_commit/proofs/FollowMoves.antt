@@ -1,8 +1,6 @@
--- Moves that follow other moves: where they bring a block, and which extents they break.
-use Rattle.std.proofs.Common.{◌≡◌, ℕ, List, [], ◌∷◌, ◌++◌, Bool, true, false, ◌==◌, ◌||◌, ◌&&◌, cond, All, refl, sym, ap, ◌∙◌, arith}
+-- Moves that follow other moves: where they bring a block, and which extents it leaves.
+use Rattle.std.proofs.Common.{◌≡◌, ℕ, List, [], ◌∷◌, ◌++◌, Bool, true, false, ◌==◌, ◌||◌, ◌&&◌, refl, ap, ◌∙◌}
 use Rattle.std.specs.List.{list_any}
-use Rattle.std.proofs.lemmas.Bool.{eqb-true, eq-eqb, ne_eqb, or_cases, false≢true}
-use Rattle.std.proofs.lemmas.List.Elements.{All-head, All-tail}
 use Rattle.std.proofs.lemmas.List.Folds.{list_any-append}
 use Rattle.f2_bytes.specs.Bytes.{Block}
 use Rattle.f2_bytes.specs.Node.{is_regular, ext_addr, ext_len}
@@ -22,16 +20,6 @@ pub is_moved-append : (xs ys : List Move) (a : ℕ) → is_moved (xs ++ ys) a �
 unfolding place_after is_moved
 is_moved-append [] ys a = refl
 is_moved-append (m ∷ xs) ys a = ap (λ r. (m.from == a) || r) (is_moved-append xs ys (moved_to m a)) ∙ or_assoc (m.from == a) (is_moved xs (moved_to m a)) (is_moved ys (place_after xs (moved_to m a)))
-
--- what no move moves stays
-pub unmoved_stays : (xs : List Move) (a : ℕ) → is_moved xs a ≡ false → place_after xs a ≡ a
-unfolding place_after is_moved
-unmoved_stays [] a none = refl
-unmoved_stays (m ∷ xs) a none = go (m.from == a) refl (unmoved_stays xs) none
-  where
-    go : (b : Bool) → (m.from == a) ≡ b → ((x : ℕ) → is_moved xs x ≡ false → place_after xs x ≡ x) → (b || is_moved xs (cond b m.to a)) ≡ false → place_after xs (cond (m.from == a) m.to a) ≡ a
-    go true is rest never = absurd (false≢true (sym never))
-    go false is rest never = ap (λ b. place_after xs (cond b m.to a)) is ∙ rest a never
 
 and_or : (r a b : Bool) → (r && (a || b)) ≡ ((r && a) || (r && b))
 and_or true a b = refl

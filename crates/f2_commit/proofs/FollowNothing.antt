@@ -1,5 +1,5 @@
 -- An image has followed no move of itself.
-use Rattle.std.proofs.Common.{◌≡◌, ℕ, ◌+◌, ◌<◌, inr, [], Bool, true, false, ◌==◌, ◌&&◌, nat_le, nat_lt, cond, length, Option, Some, None, refl, sym, ap, ◌∙◌}
+use Rattle.std.proofs.Common.{◌≡◌, ℕ, ◌+◌, ◌<◌, inr, [], Bool, true, false, ◌==◌, ◌&&◌, nat_le, nat_lt, cond, length, Option, Some, None, refl, sym}
 use Rattle.std.specs.Prelude.{option_map}
 use Rattle.f2_bytes.specs.Bytes.{Block, Image, IsBlock, block_at, word}
 use Rattle.f2_bytes.specs.Journal.{NatEntry}

@@ -1,7 +1,7 @@
 -- Moves of blocks that are in use to places that are not: each block moves once.
-use Rattle.std.proofs.Common.{◌≡◌, ℕ, ◌+◌, ◌-◌, ◌<◌, ◌≤◌, List, [], ◌∷◌, Bool, true, false, not, ◌==◌, ◌||◌, ◌&&◌, nat_le, nat_lt, cond, get_or, All, refl, sym, ap, ◌∙◌, subst, arith}
+use Rattle.std.proofs.Common.{◌≡◌, ℕ, ◌+◌, ◌-◌, List, [], ◌∷◌, Bool, true, false, not, ◌==◌, ◌||◌, ◌&&◌, nat_le, nat_lt, cond, All, refl, sym, ap, ◌∙◌, subst, arith}
 use Rattle.std.specs.List.{list_any}
-use Rattle.std.proofs.lemmas.Bool.{and_parts, and_from, eqb-true, eq-eqb, ne_eqb, not-true, not_from_false, le-leb, leb-true, lt-ltb, ltb-true, false_from_ne_true, false≢true}
+use Rattle.std.proofs.lemmas.Bool.{and_parts, and_from, eqb-true, eq-eqb, ne_eqb, not-true, le-leb, leb-true, lt-ltb, ltb-true, false_from_ne_true, false≢true}
 use Rattle.std.proofs.lemmas.List.Elements.{All-head, All-tail}
 use Rattle.std.proofs.lemmas.List.Folds.{Any-from_list_any, list_any_at}
 use Rattle.f2_bytes.specs.Bytes.{Block, word, numbers_below}
@@ -9,7 +9,7 @@ use Rattle.f2_bytes.specs.Node.{node_offset, has_slots, is_direct, is_regular, a
 use Rattle.f2_bytes.specs.Moved.{IsMovedNode, covers_moved, moved_word}
 use Rattle.f2_bytes.specs.Defragment.{is_covered}
 use Rattle.f2_bytes.proofs.Below.{found_below, some_below}
-use Rattle.f2_commit.specs.Following.{Move, moved_to, place_after, is_moved, leaves_extent, followed_word, IsFollowedNode}
+use Rattle.f2_commit.specs.Following.{Move, place_after, is_moved, leaves_extent, followed_word, IsFollowedNode}
 
 -- a block in use goes where the function says, and that place is not in use
 pub record IsStep (to : ℕ → ℕ) (used : ℕ → Bool) (m : Move) : Type 0 where

@@ -1,9 +1,9 @@
 -- The words of a node after moves, and after more of them.
-use Rattle.std.proofs.Common.{◌≡◌, ℕ, ◌+◌, ◌*◌, ◌/◌, ◌<◌, ◌≤◌, List, ◌++◌, Bool, true, false, ◌==◌, ◌&&◌, ◌||◌, not, nat_le, nat_lt, cond, refl, sym, ap, ◌∙◌, arith}
+use Rattle.std.proofs.Common.{◌≡◌, ℕ, ◌+◌, ◌/◌, ◌<◌, ◌≤◌, List, ◌++◌, Bool, true, false, ◌==◌, ◌&&◌, ◌||◌, not, nat_le, nat_lt, cond, refl, sym, ap, ◌∙◌, arith}
 use Rattle.std.specs.List.{list_any}
-use Rattle.std.proofs.lemmas.Bool.{eq-eqb, eqb-true, ne_eqb, le-ltb, lt-leb, le-leb, lt-ltb, leb-true, ltb-true, and_parts, false≢true}
+use Rattle.std.proofs.lemmas.Bool.{eq-eqb, eqb-true, ne_eqb, le-ltb, lt-leb, false≢true}
 use Rattle.f2_bytes.specs.Bytes.{Block, word, has_bit}
-use Rattle.f2_bytes.specs.Node.{node_offset, mode, inline_flags, has_slots, is_regular, is_direct, has_inline_xattr, has_inline_dentry, address_count, ext_addr, ext_len}
+use Rattle.f2_bytes.specs.Node.{node_offset, mode, inline_flags, has_slots, is_direct, address_count, ext_addr, ext_len}
 use Rattle.f2_bytes.specs.Defragment.{is_covered}
 use Rattle.f2_bytes.proofs.MovedWords.{address_count-most}
 use Rattle.f2_bytes.proofs.SameBytes.{AgreeIn, words_agree, narrow, number_same}

@@ -35,8 +35,8 @@ unfoldable pub is_moved : List Move → ℕ → Bool
 is_moved [] address = false
 is_moved (m ∷ moves) address = (m.from == address) || is_moved moves (moved_to m address)
 
--- The moves of one batch: the blocks of files at these addresses to the first targets, in order, and then the nodes that move
--- with them to the next ones.
+-- The moves of one batch: the blocks of files at these addresses to the first targets, in order, and then the nodes that
+-- move with them to the next ones.
 unfoldable pub batch_moves : Layout → ℕ → List ℕ → List ℕ → Placement → List Move
 batch_moves l nids addresses targets p =
     let data_blocks = data_among nids p addresses in
@@ -67,22 +67,30 @@ pub record IsFollowedNode (moves : List Move) (b new : Block) : Type 0 where
 
 -- the type of the segment in which a block stands: this one where it moved, and else the old one
 abbrev pub HasKind : List Move → Image → Image → ℕ → ℕ → Type 0
-HasKind moves image new kind address = kind_at new (place_after moves address) ≡ (if is_moved moves address then kind else kind_at image address)
+HasKind moves image new kind address =
+    kind_at new (place_after moves address) ≡ (if is_moved moves address then kind else kind_at image address)
 
 -- The other image has all of this one where the moves brought it.
 pub record HasFollowed (moves : List Move) (image new : Image) : Type 0 where
   pub areas : layout new ≡ layout image
   -- each node keeps its version and its inode, and its entry says where it stands now; all other entries stay
   pub table : (nid : ℕ) → nat new nid ≡ option_map (moved_entry (place_after moves)) (nat image nid)
-  pub other_entries : (nid : ℕ) → nid < nid_limit (layout image) → nat image nid ≡ None → image_nat_entry new nid ≡ image_nat_entry image nid
+  pub other_entries : (nid : ℕ) → nid < nid_limit (layout image) → nat image nid ≡ None
+      → image_nat_entry new nid ≡ image_nat_entry image nid
   -- nodes are the same but for the addresses of blocks that moved, and for extents that these left
-  pub nodes : (nid : ℕ) (e : NatEntry) → nat image nid ≡ Some e → IsFollowedNode moves (block_at image e.address) (block_at new (place_after moves e.address))
+  pub nodes : (nid : ℕ) (e : NatEntry) → nat image nid ≡ Some e
+      → IsFollowedNode moves (block_at image e.address) (block_at new (place_after moves e.address))
   -- blocks of files are the same, and no hole becomes one
-  pub slots : (ino k : ℕ) → IsTrue (is_inode image ino) → tree_slot new ino k ≡ place_after moves (tree_slot image ino k)
-  pub holes : (ino k : ℕ) → IsTrue (is_inode image ino) → is_address (tree_slot new ino k) ≡ is_address (tree_slot image ino k)
-  pub files : (ino k : ℕ) → IsTrue (is_inode image ino) → IsTrue (is_address (tree_slot image ino k)) → block_at new (tree_slot new ino k) ≡ block_at image (tree_slot image ino k)
+  pub slots : (ino k : ℕ) → IsTrue (is_inode image ino)
+      → tree_slot new ino k ≡ place_after moves (tree_slot image ino k)
+  pub holes : (ino k : ℕ) → IsTrue (is_inode image ino)
+      → is_address (tree_slot new ino k) ≡ is_address (tree_slot image ino k)
+  pub files : (ino k : ℕ) → IsTrue (is_inode image ino) → IsTrue (is_address (tree_slot image ino k))
+      → block_at new (tree_slot new ino k) ≡ block_at image (tree_slot image ino k)
   -- what moved stands in segments of warm data, and of warm nodes
-  pub data_kinds : (ino k : ℕ) → IsTrue (is_inode image ino) → IsTrue (is_address (tree_slot image ino k)) → HasKind moves image new 1 (tree_slot image ino k)
+  pub data_kinds : (ino k : ℕ) → IsTrue (is_inode image ino) → IsTrue (is_address (tree_slot image ino k))
+      → HasKind moves image new 1 (tree_slot image ino k)
   pub node_kinds : (nid : ℕ) (e : NatEntry) → nat image nid ≡ Some e → HasKind moves image new 4 e.address
   -- a new node is looked for from the least free number on, unless nothing moved
-  pub next_free : (next_free_nid (head new) ≡ least_free_nid new) ⊎ ((moves ≡ []) × (next_free_nid (head new) ≡ next_free_nid (head image)))
+  pub next_free : (next_free_nid (head new) ≡ least_free_nid new)
+      ⊎ ((moves ≡ []) × (next_free_nid (head new) ≡ next_free_nid (head image)))

@@ -8,8 +8,10 @@ use Rattle.f2_commit.specs.Following.{Move, HasFollowed}
 
 -- what has followed moves, and then more of them, has followed all, one after the other
 abbrev pub MovesFollowEachOther : Type 0
-MovesFollowEachOther = (first second : List Move) (image between new : Image) → HasFollowed first image between → HasFollowed second between new → HasFollowed (first ++ second) image new
+MovesFollowEachOther = (first second : List Move) (image between new : Image)
+    → HasFollowed first image between → HasFollowed second between new → HasFollowed (first ++ second) image new
 
 -- a checked image does not depend on the summary block of a free segment
 abbrev pub FreeSegmentsSpareTheirSummaries : Type 0
-FreeSegmentsSpareTheirSummaries = (image : Image) → IsTrue (is_checked image) → (segment : ℕ) → IsTrue (is_free image segment) → IsFalse (is_support image ((layout image).ssa + segment))
+FreeSegmentsSpareTheirSummaries = (image : Image) → IsTrue (is_checked image) → (segment : ℕ)
+    → IsTrue (is_free image segment) → IsFalse (is_support image ((layout image).ssa + segment))

@@ -132,5 +132,6 @@ pub record HasMoved (image new : Image) (addresses targets : List ℕ) : Type 0 
   pub no_nat_journal : nat_journal new ≡ []
   pub no_sit_journal : sit_journal new ≡ []
   -- all that names the blocks has followed, and a new node is looked for from the least free number on
-  pub followed : HasFollowed (batch_moves (layout image) (nid_limit (layout image)) addresses targets (placement image)) image new
+  pub followed : HasFollowed (batch_moves (layout image) (nid_limit (layout image)) addresses targets (placement image))
+      image new
   pub next_free : next_free_nid (head new) ≡ least_free_nid new

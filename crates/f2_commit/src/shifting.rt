@@ -311,7 +311,8 @@ fn ready_to_move<D: Disk>(
 /// Moves the blocks at these addresses of a checked image to free segments: at most 4096 addresses of valid main
 /// blocks, ascending. The data go to the first targets by ascending address, and the nodes that move with them to the next ones
 /// by ascending nid; an extent that covers a block that moves is made zero. Targets are different free main segments, counted
-/// from 0; there are at least as many as the data and the nodes that `weigh` answers fill, 512 blocks each.
+/// from 0; there are at least as many as the data and the nodes that `weigh` answers fill, 512 blocks each. They become
+/// segments of warm data and of warm nodes. The node address table keeps all versions and inodes.
 ///
 /// Where nothing was pending before, a crash at any moment leaves a checked image with the same tree and the same superblock
 /// copies; so does a fault, after which the image is to be mounted anew. After `NoMemory` nothing was written. On a disk that tells nothing of its blocks, a batch whose

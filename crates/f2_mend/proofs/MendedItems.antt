@@ -323,6 +323,6 @@ module _ (image other : Image) (h : is_mountable image ≡ true) (m : IsMended i
       ninth : part_defects (get_or (directory_parts other) 8 no_part) ≡ []
       ninth = clear_from (get_or (directory_parts other) 8 no_part) (λ d place low inside. size_past d)
 
-  pub mended_meets_rule_10 : is_rule_met other 10 ≡ true
+  pub mended_meets_directory_rule : is_rule_met other 10 ≡ true
   unfolding defects
-  mended_meets_rule_10 = met_of (directory_parts other) items_clear
+  mended_meets_directory_rule = met_of (directory_parts other) items_clear

@@ -19,15 +19,15 @@ use Rattle.f2_bytes.specs.Mending.{is_salvaged_directory}
 use Rattle.f2_bytes.specs.Mended.{IsMended}
 use Rattle.f2_mend.proofs.KeptItems.{items_kept}
 use Rattle.f2_mend.proofs.KeptNames.{kept_names}
-use Rattle.f2_mend.proofs.MendedItems.{mended_meets_rule_10}
-use Rattle.f2_mend.proofs.MendedNames.{HasNames, same_links, same_tree_names, mended_meets_rule_11}
+use Rattle.f2_mend.proofs.MendedItems.{mended_meets_directory_rule}
+use Rattle.f2_mend.proofs.MendedNames.{HasNames, same_links, same_tree_names, mended_meets_link_rule}
 use Rattle.f2_mend.proofs.MendedReads.{copied, loads, readable}
 use Rattle.f2_mend.proofs.NamesTree.{names_form_tree}
 use Rattle.f2_mend.proofs.MendedTree.{tree_mended}
-use Rattle.f2_mend.proofs.PlacedBlocks.{placed_meets_rule_4, placed_meets_rule_5, placed_meets_rule_6}
-use Rattle.f2_mend.proofs.PlacedCounts.{block_counts_clear, extents_clear, placed_meets_rule_7}
-use Rattle.f2_mend.proofs.PlacedNodes.{placed_meets_rule_3, placed_meets_rule_12}
-use Rattle.f2_mend.proofs.PlacedOrder.{placed_meets_rule_2, placed_meets_rule_8}
+use Rattle.f2_mend.proofs.PlacedBlocks.{placed_meets_address_rule, placed_meets_validity_rule, placed_meets_summary_rule}
+use Rattle.f2_mend.proofs.PlacedCounts.{block_counts_clear, extents_clear, placed_meets_count_rule}
+use Rattle.f2_mend.proofs.PlacedNodes.{placed_meets_node_rule, placed_meets_attribute_rule}
+use Rattle.f2_mend.proofs.PlacedOrder.{placed_meets_checkpoint_rule, placed_meets_log_rule}
 use Rattle.f2_mend.specs.Laws.{NamesFormTree, MendedIsSalvage}
 
 -- an image that can be read and meets each rule but the first has a checked body
@@ -52,23 +52,23 @@ module _ (image other : Image) (h : is_mountable image ≡ true) (m : IsMended i
       third : part_defects (get_or (inode_parts other) 2 no_part) ≡ []
       third = extents_clear m.places other m.placed
 
-  mended_meets_rule_9 : is_rule_met other 9 ≡ true
+  mended_meets_inode_rule : is_rule_met other 9 ≡ true
   unfolding defects
-  mended_meets_rule_9 = met_of (inode_parts other) inodes_clear
+  mended_meets_inode_rule = met_of (inode_parts other) inodes_clear
 
   -- each rule is met
   rules_met : (rule : ℕ) → rule < 11 → is_rule_met other (2 + rule) ≡ true
-  rules_met zero low = placed_meets_rule_2 m.places other m.placed
-  rules_met (suc zero) low = placed_meets_rule_3 m.places other m.placed
-  rules_met (suc (suc zero)) low = placed_meets_rule_4 m.places other m.placed
-  rules_met (suc (suc (suc zero))) low = placed_meets_rule_5 m.places other m.placed (loads image other h m)
-  rules_met (suc (suc (suc (suc zero)))) low = placed_meets_rule_6 m.places other m.placed (loads image other h m)
-  rules_met (suc (suc (suc (suc (suc zero))))) low = placed_meets_rule_7 m.places other m.placed
-  rules_met (suc (suc (suc (suc (suc (suc zero)))))) low = placed_meets_rule_8 m.places other m.placed
-  rules_met (suc (suc (suc (suc (suc (suc (suc zero))))))) low = mended_meets_rule_9
-  rules_met (suc (suc (suc (suc (suc (suc (suc (suc zero)))))))) low = mended_meets_rule_10 image other h m t has
-  rules_met (suc (suc (suc (suc (suc (suc (suc (suc (suc zero))))))))) low = mended_meets_rule_11 image other h m t has
-  rules_met (suc (suc (suc (suc (suc (suc (suc (suc (suc (suc zero)))))))))) low = placed_meets_rule_12 m.places other m.placed
+  rules_met zero low = placed_meets_checkpoint_rule m.places other m.placed
+  rules_met (suc zero) low = placed_meets_node_rule m.places other m.placed
+  rules_met (suc (suc zero)) low = placed_meets_address_rule m.places other m.placed
+  rules_met (suc (suc (suc zero))) low = placed_meets_validity_rule m.places other m.placed (loads image other h m)
+  rules_met (suc (suc (suc (suc zero)))) low = placed_meets_summary_rule m.places other m.placed (loads image other h m)
+  rules_met (suc (suc (suc (suc (suc zero))))) low = placed_meets_count_rule m.places other m.placed
+  rules_met (suc (suc (suc (suc (suc (suc zero)))))) low = placed_meets_log_rule m.places other m.placed
+  rules_met (suc (suc (suc (suc (suc (suc (suc zero))))))) low = mended_meets_inode_rule
+  rules_met (suc (suc (suc (suc (suc (suc (suc (suc zero)))))))) low = mended_meets_directory_rule image other h m t has
+  rules_met (suc (suc (suc (suc (suc (suc (suc (suc (suc zero))))))))) low = mended_meets_link_rule image other h m t has
+  rules_met (suc (suc (suc (suc (suc (suc (suc (suc (suc (suc zero)))))))))) low = placed_meets_attribute_rule m.places other m.placed
   rules_met (suc (suc (suc (suc (suc (suc (suc (suc (suc (suc (suc k))))))))))) low = absurd (omega (arith, low))
 
   pub checked_mended : is_checked_body other ≡ true

@@ -191,9 +191,9 @@ module _ (image other : Image) (h : is_mountable image ≡ true) (m : IsMended i
           one_clear 3 4 (λ ino. where_true (ino == 3) (same (name_count other 3) 0)) (λ ino low.
           where_holds (ino == 3) _ (λ here. same_holds _ _ (same_name_count 3 ∙ t.root_unnamed)))
 
-  pub mended_meets_rule_11 : is_rule_met other 11 ≡ true
+  pub mended_meets_link_rule : is_rule_met other 11 ≡ true
   unfolding defects
-  mended_meets_rule_11 = met_of (link_parts other) links_clear
+  mended_meets_link_rule = met_of (link_parts other) links_clear
 
   -- ---- link counts
 

@@ -166,9 +166,9 @@ module _ (p : FilePlaces) (image : Image) (h : HoldsFiles p image) where
           let nodes : nodes_with image (tree_slot image ino k) ≡ 0 = ap (nodes_with image) t.1 ∙ no_nodes ino k t.0 t.2 in
           same_holds _ _ (omega (arith, slots, nodes))))
 
-  pub placed_meets_rule_4 : is_rule_met image 4 ≡ true
+  pub placed_meets_address_rule : is_rule_met image 4 ≡ true
   unfolding defects
-  placed_meets_rule_4 = met_of (address_parts image) addresses_clear
+  placed_meets_address_rule = met_of (address_parts image) addresses_clear
 
   -- ---- the rule on marks
 
@@ -234,9 +234,9 @@ module _ (p : FilePlaces) (image : Image) (h : HoldsFiles p image) where
         third = blocks_clear image image 3 (λ address. where_true (is_marked image address) (type_comparison image address)) refl (λ x main low.
             where_holds (is_marked image x) (type_comparison image x) (λ marked. type_holds x main))
 
-    pub placed_meets_rule_5 : is_rule_met image 5 ≡ true
+    pub placed_meets_validity_rule : is_rule_met image 5 ≡ true
     unfolding defects
-    placed_meets_rule_5 = met_of (validity_parts image) validity_clear
+    placed_meets_validity_rule = met_of (validity_parts image) validity_clear
 
     -- ---- the rule on summaries
 
@@ -316,6 +316,6 @@ module _ (p : FilePlaces) (image : Image) (h : HoldsFiles p image) where
             let parts = and_parts (has_valid_block image segment) (not (is_log_segment (head image) segment)) made in
             same_holds _ _ (h.entry_types segment low parts.0 (not-true _ parts.1))))
 
-    pub placed_meets_rule_6 : is_rule_met image 6 ≡ true
+    pub placed_meets_summary_rule : is_rule_met image 6 ≡ true
     unfolding defects
-    placed_meets_rule_6 = met_of (summary_parts image) summaries_clear
+    placed_meets_summary_rule = met_of (summary_parts image) summaries_clear

@@ -207,9 +207,9 @@ module _ (p : FilePlaces) (image : Image) (h : HoldsFiles p image) where
       fourth : part_defects (get_or (count_parts image) 3 no_part) ≡ []
       fourth = single_clear 4 _ (same_holds _ _ h.free_segments)
 
-  pub placed_meets_rule_7 : is_rule_met image 7 ≡ true
+  pub placed_meets_count_rule : is_rule_met image 7 ≡ true
   unfolding defects
-  placed_meets_rule_7 = met_of (count_parts image) counts_clear
+  placed_meets_count_rule = met_of (count_parts image) counts_clear
 
   -- ---- the parts of the rule on inodes but that on links
 

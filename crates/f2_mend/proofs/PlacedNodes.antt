@@ -225,9 +225,9 @@ module _ (p : FilePlaces) (image : Image) (h : HoldsFiles p image) where
           one_clear 7 (nids image) (λ nid. where_true (is_some (nat image nid) && not (is_inode image nid)) (same (times_named image nid) 1)) (λ nid low.
           where_holds (is_some (nat image nid) && not (is_inode image nid)) _ (λ made. same_holds _ _ (once nid made)))
 
-  pub placed_meets_rule_3 : is_rule_met image 3 ≡ true
+  pub placed_meets_node_rule : is_rule_met image 3 ≡ true
   unfolding defects
-  placed_meets_rule_3 = met_of (node_parts image) nodes_clear
+  placed_meets_node_rule = met_of (node_parts image) nodes_clear
 
   -- ---- attribute nodes
 
@@ -246,6 +246,6 @@ module _ (p : FilePlaces) (image : Image) (h : HoldsFiles p image) where
           one_clear 1 (nids image) (λ ino. of_value (inode_of image ino) (λ b. where_true (not (xattr_nid b == 0)) (same (offset_of_node image (xattr_nid b) ino) attribute_offset))) (λ ino low.
           value_holds (inode_of image ino) _ (λ b is. where_holds (not (xattr_nid b == 0)) _ (λ some. same_holds _ _ (attribute_at ino b is some))))
 
-  pub placed_meets_rule_12 : is_rule_met image 12 ≡ true
+  pub placed_meets_attribute_rule : is_rule_met image 12 ≡ true
   unfolding defects
-  placed_meets_rule_12 = met_of (attribute_parts image) attributes_clear
+  placed_meets_attribute_rule = met_of (attribute_parts image) attributes_clear

@@ -29,9 +29,9 @@ module _ (p : FilePlaces) (image : Image) (h : HoldsFiles p image) where
       third : part_defects (single 3 (same (bit_and (ckpt_flags (head image)) 0x1018) 0)) ≡ []
       third = single_clear 3 (same (bit_and (ckpt_flags (head image)) 0x1018) 0) (same_holds _ _ h.flags)
 
-  pub placed_meets_rule_2 : is_rule_met image 2 ≡ true
+  pub placed_meets_checkpoint_rule : is_rule_met image 2 ≡ true
   unfolding defects
-  placed_meets_rule_2 = met_of (checkpoint_parts image) order
+  placed_meets_checkpoint_rule = met_of (checkpoint_parts image) order
 
   -- ---- logs
 
@@ -93,6 +93,6 @@ module _ (p : FilePlaces) (image : Image) (h : HoldsFiles p image) where
       fourth : part_defects fourth_part ≡ []
       fourth = clear_from fourth_part (λ t k low within. where_holds (((log (head image) t).allocation == 0) && nat_lt (log (head image) t).offset k) _ (λ here. same_holds _ _ (free_after t k low within here)))
 
-  pub placed_meets_rule_8 : is_rule_met image 8 ≡ true
+  pub placed_meets_log_rule : is_rule_met image 8 ≡ true
   unfolding defects
-  placed_meets_rule_8 = met_of (log_parts image) logs_clear
+  placed_meets_log_rule = met_of (log_parts image) logs_clear

@@ -22,8 +22,8 @@ pub record NamesFormTree (image : Image) : Type 0 where
   pub no_loops : (n ino : ℕ) → IsTrue (is_salvaged_directory image ino)
       → salvaged_ancestor image (n + 1) ino ≢ Some ino
 
--- where an image can be mounted and its root is left, an image that was mended of it is checked but for the agreement of
--- the superblock copies, and its tree is the salvage
+-- where an image can be mounted and its root is left, an image that was mended of it meets all rules but the one on the
+-- superblock copies, and its tree is the salvage
 abbrev pub MendedIsSalvage : Type 0
 MendedIsSalvage = (image other : Image) → IsTrue (is_mountable image) → IsTrue (is_some (salvage image))
     → IsMended image other → IsTrue (is_checked_body other) × (salvage image ≡ Some (tree other))

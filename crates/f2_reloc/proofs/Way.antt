@@ -2,17 +2,18 @@
 use Rattle.std.proofs.Common.{◌≡◌, ℕ, ◌+◌, ◌<◌, ◌≤◌, inl, inr, List, [], ◌∷◌, ◌++◌, append_assoc, append_nil, Bool, true, false, ◌==◌, ◌||◌, nat_le, filter, length, get_or, All, refl, sym, ap, subst, ◌∙◌, ⊎_elim, arith}
 use Rattle.std.specs.Prelude.{drop}
 use Rattle.std.specs.List.Sorted.{IsStrictlyIncreasing}
-use Rattle.std.proofs.lemmas.Bool.{or_cases, leb-true, ne_eqb, cond-false, false_from_ne_true, false≢true}
+use Rattle.std.proofs.lemmas.Bool.{and_parts, or_cases, leb-true, ne_eqb, cond-false, false_from_ne_true, false≢true}
 use Rattle.std.proofs.lemmas.List.Elements.{All-filter, All-weaker, filter_passes}
 use Rattle.std.proofs.lemmas.List.Kept.{IsStrictlyIncreasing-filter}
 use Rattle.f2_bytes.specs.declared.layout.Layout.{Layout}
 use Rattle.f2_bytes.specs.Bytes.{Image, IsBlock, block_at, numbers_below}
 use Rattle.f2_bytes.specs.Checkpoint.{head, next_free_nid}
-use Rattle.f2_bytes.specs.Superblock.{layout, segment_start, segment_of}
+use Rattle.f2_bytes.specs.Superblock.{layout, is_main, segment_start, segment_of}
 use Rattle.f2_bytes.specs.NodeAddressTable.{nid_limit}
-use Rattle.f2_bytes.specs.Check.{is_checked}
+use Rattle.f2_bytes.specs.Check.{is_checked, is_marked}
 use Rattle.f2_bytes.specs.Support.{is_free, free_segments}
 use Rattle.f2_bytes.specs.Defragment.{placement, occupied, batch_need, move_need, moved_batch, move_targets, Moves, moves_after, main_end, defrag_batches, defrag_targets, defrag_need, defrag_have, defrag_moves}
+use Rattle.f2_bytes.proofs.ValidAddresses.{valid_none}
 use Rattle.f2_commit.specs.Following.{Move, batch_moves, HasFollowed}
 use Rattle.f2_commit.specs.FreeNids.{least_free_nid}
 use Rattle.f2_commit.specs.Moves.{AreSamePlaces, HasMoved}
@@ -44,8 +45,8 @@ module _ (image : Image) (start end target : ℕ) (down : Bool) (main : (layout 
     followed = subst (HasFollowed w.done image) (sym idle.same) w.followed;
     ahead = ap (λ (ms : List Move). w.done ++ ms) (sym (idle_along image start end main inside w.moves part rest now w.reached idle.none)) ∙ w.ahead;
     next_free = λ some.
-        subst (λ (x : Image). next_free_nid (head x) ≡ least_free_nid x) (sym idle.same)
-        (w.next_free (subst (λ n. 1 ≤ n) (rw idle.blocks (omega arith)) some));
+        let same : (moved_with moved step).batches ≡ moved.batches = rw idle.blocks (omega arith) in
+        subst (λ (x : Image). next_free_nid (head x) ≡ least_free_nid x) (sym idle.same) (w.next_free (subst (λ n. 1 ≤ n) same some));
     left = w.left ∙ ap (λ n. drop n targets) (sym idle.taken);
     blocks = let same = w.blocks in let none = idle.blocks in omega (arith, same, none);
     batches = w.batches ∙ sym (rw idle.blocks (omega arith));
@@ -103,7 +104,8 @@ module _ (image : Image) (start end target : ℕ) (down : Bool) (main : (layout 
     placed = subst (λ (x : Moves). AreSamePlaces x.placed (placement now)) w.leads w.reached.placed;
     blocks = sym w.blocks ∙ ap (λ (x : Moves). x.blocks) w.leads;
     batches = sym w.batches ∙ ap (λ (x : Moves). x.batches) w.leads;
-    empty = λ a low high. false_from_ne_true _ (λ marked. false≢true (w.reached.remain a low high marked));
+    empty = sym (valid_none now start end (λ a low high.
+        false_from_ne_true _ (λ valid. false≢true (w.reached.remain a low high (and_parts (is_main (layout now) a) (is_marked now a) valid).1))));
     enough = enough;
     followed = subst (λ (ms : List Move). HasFollowed ms image now) (sym (append_nil w.done) ∙ w.ahead) w.followed;
     next_free = w.next_free;

@@ -1,10 +1,11 @@
 -- What stands while the batches of a range move, and once the range is empty.
-use Rattle.std.specs.Prelude.{◌≡◌, ◌⊎◌, ℕ, ◌+◌, ◌-◌, ◌*◌, ◌<◌, ◌≤◌, Bool, List, [], ◌∷◌, ◌++◌, ◌==◌, if◌then◌else◌, filter, flat_map, map, length, get_or, IsTrue, IsFalse}
+use Rattle.std.specs.Prelude.{◌≡◌, ◌⊎◌, ℕ, ◌+◌, ◌-◌, ◌*◌, ◌<◌, ◌≤◌, Bool, List, [], ◌∷◌, ◌++◌, ◌==◌, if◌then◌else◌, filter, flat_map, map, length, get_or, IsTrue}
 use Rattle.std.specs.List.{list_any, range_with_len, All}
 use Rattle.f2_bytes.specs.declared.layout.Layout.{Layout}
 use Rattle.f2_bytes.specs.Bytes.{Image, block_at, quotient_up}
 use Rattle.f2_bytes.specs.Superblock.{layout, segment_start}
 use Rattle.f2_bytes.specs.NodeAddressTable.{nid_limit}
+use Rattle.f2_bytes.specs.SegmentTable.{AreValid}
 use Rattle.f2_bytes.specs.Checkpoint.{head, log, user_block_count, rsvd_segment_count, overprov_segment_count, next_free_nid}
 use Rattle.f2_bytes.specs.Check.{is_checked, is_marked}
 use Rattle.f2_bytes.specs.Support.{is_free}
@@ -60,12 +61,15 @@ IsOutside l start end segment = (end ≤ segment_start l segment) ⊎ (segment_s
 unfoldable pub moves_along : Layout → ℕ → Moves → List (List ℕ) → List Move
 moves_along l nids m [] = []
 moves_along l nids m (addresses ∷ rest) =
-    (if length (occupied nids m.placed addresses) == 0 then [] else batch_moves l nids addresses m.targets m.placed) ++ moves_along l nids (after_batch l nids m addresses) rest
+    (if length (occupied nids m.placed addresses) == 0 then [] else batch_moves l nids addresses m.targets m.placed)
+    ++ moves_along l nids (after_batch l nids m addresses) rest
 
 -- those that empty a range
 unfoldable pub all_moves : Image → ℕ → ℕ → ℕ → Bool → List Move
 all_moves image start end target down =
-    moves_along (layout image) (nid_limit (layout image)) (record { placed = placement image; targets = defrag_targets image start end target down; blocks = 0; batches = 0 }) (defrag_batches image start end)
+    moves_along (layout image) (nid_limit (layout image))
+    (record { placed = placement image; targets = defrag_targets image start end target down; blocks = 0; batches = 0 })
+    (defrag_batches image start end)
 
 -- ---- what stays
 
@@ -102,7 +106,8 @@ pub record IsOnWay (image : Image) (start end target : ℕ) (down : Bool) (targe
   pub leads : moves_after (layout image) (nid_limit (layout image)) moves rest ≡ defrag_moves image start end target down
   pub done : List Move
   pub followed : HasFollowed done image now
-  pub ahead : done ++ moves_along (layout image) (nid_limit (layout image)) moves rest ≡ all_moves image start end target down
+  pub ahead : done ++ moves_along (layout image) (nid_limit (layout image)) moves rest
+      ≡ all_moves image start end target down
   pub next_free : 1 ≤ moved.batches → next_free_nid (head now) ≡ least_free_nid now
   pub left : moves.targets ≡ targets
   pub blocks : moves.blocks ≡ moved.blocks
@@ -178,7 +183,7 @@ pub record IsEmptied (image : Image) (start end target : ℕ) (down : Bool) (new
   pub placed : AreSamePlaces (defrag_moves image start end target down).placed (placement new)
   pub blocks : moved.blocks ≡ (defrag_moves image start end target down).blocks
   pub batches : moved.batches ≡ (defrag_moves image start end target down).batches
-  pub empty : (a : ℕ) → start ≤ a → a < end → IsFalse (is_marked new a)
+  pub empty : AreValid new start end []
   pub enough : defrag_need image start end ≤ defrag_have image start end target down
   -- all that names the blocks has followed their moves, and a new node is looked for from the least free number on
   pub followed : HasFollowed (all_moves image start end target down) image new

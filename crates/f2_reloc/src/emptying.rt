@@ -210,7 +210,8 @@ fn planned<D: Disk>(
 }
 
 /// Empties a range of the main area of a checked image: the blocks that stand there, and the nodes that hold their addresses,
-/// move to free segments outside of it, from the target's on upward, or downward; batch by batch.
+/// move to free segments outside of it, from the target's on upward, or downward; batch by batch. All that names them follows,
+/// as with `shift`.
 ///
 /// Where the range has no valid block nothing is written, and the free segments are not looked for. After `NoSpace` nothing was
 /// written. Whatever it answers, the disk reads as a checked image with the same tree and the same superblock copies, and, where

@@ -10,7 +10,8 @@ use Rattle.f2_resize.specs.Relaid.{is_area_row, IsCopyFor, HasRoomIn}
 
 -- no valid block is left in the segments that are emptied, no log is in one, and no node has too high a number
 pub record IsEmptied (image : Image) (blocks : ℕ) : Type 0 where
-  pub range : (address : ℕ) → emptied_start image blocks ≤ address → address < emptied_end image blocks → IsFalse (is_marked image address)
+  pub range : (address : ℕ) → emptied_start image blocks ≤ address → address < emptied_end image blocks
+      → IsFalse (is_marked image address)
   pub logs : (t : ℕ) → t < 6 → IsTrue (is_kept_segment image blocks (log (head image) t).segment)
   pub nids : nid_too_high image blocks ≡ None
 
@@ -37,5 +38,6 @@ pub record IsAimedCopy (aim : Aim) (old new : List ℕ) : Type 0 where
 
 -- such a copy passes, and is one for the layout of the aim
 abbrev pub AimedCopyPasses : Type 0
-AimedCopyPasses = (old new : List ℕ) (blocks : ℕ) → IsTrue (copy_passes old) → blocks ≤ 2 ^ 28 → 1 ≤ (aim_of old blocks).main → IsAimedCopy (aim_of old blocks) old new
+AimedCopyPasses = (old new : List ℕ) (blocks : ℕ) → IsTrue (copy_passes old) → blocks ≤ 2 ^ 28
+    → 1 ≤ (aim_of old blocks).main → IsAimedCopy (aim_of old blocks) old new
     → IsCopyFor (aimed_layout old (aim_of old blocks)) old new

@@ -1,10 +1,16 @@
-//! The sizes of the areas that a resize aims at, and the laws that it rests on: what its moves of logs and its last part
-//! leave is checked, with the same tree.
+//! Laws that a resize rests on: what its moves of logs and its last part leave is checked, with the
+//! same tree.
 //!
-//! A resize takes three steps. Logs in segments that fall away go on in free ones, in one commit. The blocks in use there
-//! are moved, batch by batch. In the last part the areas are laid anew, while the blocks of the main area stay where they
-//! are. `specs/Aim` has the sizes and the needs, `specs/MovedLogs` the first step, `specs/Emptied` what stands before the
-//! last part, and `specs/Relaid` with `specs/CopiedSummaries` what the last part leaves.
+//! A resize takes three steps. Logs in segments that fall away go on in free ones, in one commit.
+//! The blocks in use there are moved, batch by batch. In the last part the areas are laid anew,
+//! while the blocks of the main area stay where they are. The sizes that it aims at and the
+//! segments that it needs stand in f2_bytes (specs/Resize); here specs/MovedLogs has the first
+//! step, specs/Emptied what stands before the last part, and specs/Relaid with
+//! specs/CopiedSummaries what the last part leaves.
+//!
+//! Each law is the contract of a call that takes nothing and does nothing: a proof cites it. Begin
+//! with `relaid_areas_keep_the_tree`; `emptied_images_have_room`, `copies_of_aims_pass` and
+//! `copied_summaries_stay` give what it asks for.
 #![tactic(auto)]
 
 mod laws;

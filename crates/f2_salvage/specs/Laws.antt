@@ -14,8 +14,10 @@ HasBlocks image = (n : ℕ) → n < length image → IsBlock (block_at image n)
 
 -- where all rules but the one on the superblock copies are met, the salvage is the tree
 abbrev pub CheckedIsSalvage : Type 0
-CheckedIsSalvage = (image : Image) → HasBlocks image → IsTrue (is_checked_body image) → salvage image ≡ Some (tree image)
+CheckedIsSalvage = (image : Image) → HasBlocks image → IsTrue (is_checked_body image)
+    → salvage image ≡ Some (tree image)
 
 -- another image with the support of this one has its salvage, where a superblock copy passes and a pack counts
 abbrev pub SupportKeepsSalvage : Type 0
-SupportKeepsSalvage = (image other : Image) → AgreesOnSupport image other → IsTrue (is_some (super_copy image)) → IsTrue (has_checkpoint image) → salvage other ≡ salvage image
+SupportKeepsSalvage = (image other : Image) → AgreesOnSupport image other → IsTrue (is_some (super_copy image))
+    → IsTrue (has_checkpoint image) → salvage other ≡ salvage image

@@ -29,9 +29,10 @@ KeptAreFirst = (image : Image) → All (IsFirstClaim image) (kept_claims image)
 
 -- a file other than the root is lost just where no kept name is its own
 abbrev pub KeptOrLost : Type 0
-KeptOrLost = (image : Image) (ino : ℕ) → IsTrue (is_file image ino) → ino ≢ root → is_lost image ino ≡ not (list_any (is_on ino) (kept_claims image))
+KeptOrLost = (image : Image) (ino : ℕ) → IsTrue (is_file image ino) → ino ≢ root
+    → is_lost image ino ≡ not (list_any (is_on ino) (kept_claims image))
 
--- a name of the salvage: a legal one, in a directory, of another file than that and the root, and the only such name there
+-- a name of the salvage: legal, in a directory, of another file than that and the root, and the only such name there
 pub record IsSalvagedName (image : Image) (c : Claim) : Type 0 where
   pub legal : IsTrue (is_legal_name c.name)
   pub plain : IsFalse (is_dots c.name)
@@ -43,7 +44,8 @@ pub record IsSalvagedName (image : Image) (c : Claim) : Type 0 where
 
 -- where a superblock copy passes and the root directory is left, all names of the salvage are such
 abbrev pub NamesStandOnce : Type 0
-NamesStandOnce = (image : Image) → IsTrue (is_some (super_copy image)) → IsTrue (is_directory_file image root) → All (IsSalvagedName image) (names image)
+NamesStandOnce = (image : Image) → IsTrue (is_some (super_copy image)) → IsTrue (is_directory_file image root)
+    → All (IsSalvagedName image) (names image)
 
 -- a file of the salvage has names, as many as its links can count, and a directory one
 pub record HasNames (image : Image) (ino : ℕ) : Type 0 where
@@ -52,11 +54,13 @@ pub record HasNames (image : Image) (ino : ℕ) : Type 0 where
   pub one : IsTrue (is_salvaged_directory image ino) → count_by (is_on ino) (names image) ≡ 1
 
 abbrev pub FilesHaveNames : Type 0
-FilesHaveNames = (image : Image) (ino : ℕ) → IsTrue (is_some (super_copy image)) → IsTrue (is_salvaged_file image ino) → ino ≢ root → HasNames image ino
+FilesHaveNames = (image : Image) (ino : ℕ) → IsTrue (is_some (super_copy image)) → IsTrue (is_salvaged_file image ino)
+    → ino ≢ root → HasNames image ino
 
--- from each file such steps lead to the root
+-- from each file of the salvage, steps up to the least directory that names it lead to the root
 abbrev pub StepsReachRoot : Type 0
-StepsReachRoot = (image : Image) (ino : ℕ) → IsTrue (is_some (super_copy image)) → IsTrue (is_directory_file image root) → IsTrue (is_salvaged_file image ino)
+StepsReachRoot = (image : Image) (ino : ℕ) → IsTrue (is_some (super_copy image))
+    → IsTrue (is_directory_file image root) → IsTrue (is_salvaged_file image ino)
     → (n : ℕ) × (salvaged_ancestor image n ino ≡ Some root)
 
 -- claims whose names ascend in byte order
@@ -72,4 +76,6 @@ pub record IsOrdered (image : Image) (ino : ℕ) (cs : List Claim) : Type 0 wher
 
 -- the names of a directory in order are such a list, and no other list is
 abbrev pub NamesAreOrdered : Type 0
-NamesAreOrdered = (image : Image) (ino : ℕ) → IsTrue (is_some (super_copy image)) → IsOrdered image ino (names_of image ino) × ((cs : List Claim) → IsOrdered image ino cs → cs ≡ names_of image ino)
+NamesAreOrdered = (image : Image) (ino : ℕ) → IsTrue (is_some (super_copy image))
+    → IsOrdered image ino (names_of image ino)
+    × ((cs : List Claim) → IsOrdered image ino cs → cs ≡ names_of image ino)

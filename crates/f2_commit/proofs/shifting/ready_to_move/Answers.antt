@@ -18,6 +18,11 @@ returns-then-segments_for-targets-clause-some g c = λ image told.
     let enough = need_met image c.args.addrs.now c.args.targets.now c.in_ok-found.found.data.items c.in_ok-found.found.nodes.items (c.requires.targets image told) (found.data image told) (found.nodes image told) in
     absurd (omega (arith, enough, c.segments_for.ensures, c.segments_for-2.ensures, c.if-segments_for-targets.true))
 
+pub prepare-requires-clause-of_image : goal.prepare-requires-clause-of_image
+prepare-requires-clause-of_image g c = λ image now.
+    subst (IsMountOf image) (sym (c.in_ok-change.ensures.mount ∙ c.in_ok-found.ensures.mount))
+    (c.requires.of_image image (sym c.in_ok-found.ensures.reads.told ∙ sym c.in_ok-change.ensures.reads.told ∙ now))
+
 pub prepare-requires-clause-free : goal.prepare-requires-clause-free
 prepare-requires-clause-free g c = λ image now.
     let told = sym c.in_ok-found.ensures.reads.told ∙ sym c.in_ok-change.ensures.reads.told ∙ now in
