@@ -1,5 +1,5 @@
 -- The way from the first batch of a range to its end.
-use Rattle.std.proofs.Common.{◌≡◌, ℕ, ◌+◌, ◌<◌, ◌≤◌, inl, inr, List, [], ◌∷◌, ◌++◌, append_assoc, append_nil, Bool, true, false, ◌==◌, ◌||◌, nat_le, filter, length, get_or, All, refl, sym, ap, subst, ◌∙◌, ⊎_elim, arith}
+use Rattle.std.proofs.Common.{◌≡◌, ℕ, ◌+◌, ◌<◌, ◌≤◌, inl, inr, List, [], ◌∷◌, ◌++◌, append_assoc, append-nil, Bool, true, false, ◌==◌, ◌||◌, nat_le, filter, length, get_or, All, refl, sym, ap, subst, ◌∙◌, ⊎_elim, arith}
 use Rattle.std.specs.Prelude.{drop}
 use Rattle.std.specs.List.Sorted.{IsStrictlyIncreasing}
 use Rattle.std.proofs.lemmas.Bool.{and_parts, or_cases, leb-true, ne_eqb, cond-false, false_from_ne_true, false≢true}
@@ -107,7 +107,7 @@ module _ (image : Image) (start end target : ℕ) (down : Bool) (main : (layout 
     empty = sym (valid_none now start end (λ a low high.
         false_from_ne_true _ (λ valid. false≢true (w.reached.remain a low high (and_parts (is_main (layout now) a) (is_marked now a) valid).1))));
     enough = enough;
-    followed = subst (λ (ms : List Move). HasFollowed ms image now) (sym (append_nil w.done) ∙ w.ahead) w.followed;
+    followed = subst (λ (ms : List Move). HasFollowed ms image now) (sym (append-nil w.done) ∙ w.ahead) w.followed;
     next_free = w.next_free;
   }
 

@@ -5,7 +5,7 @@ use Rattle.f2_bytes.specs.Check.{is_marked}
 use Rattle.f2_bytes.specs.Defragment.{placement, batch_need}
 use Rattle.f2_bytes.specs.NodeAddressTable.{nid_limit}
 use Rattle.f2_bytes.specs.Superblock.{layout}
-use Rattle.f2_view.specs.Mounted.{layout_in}
+use Rattle.f2_view.specs.Mounted.{layout_in, IsMountOf}
 use Rattle.f2_view.proofs.TableReadings.{own_layout}
 use Rattle.f2_reloc.specs.Emptying.{part_of}
 use Rattle.f2_reloc.proofs.CutEnds.{parts_need}
@@ -33,3 +33,7 @@ returns-clause-need g c =
     ∙ ap (batch_need (nid_limit (layout image)) (placement image)) says
     ∙ parts_need image (c.requires.checked image told) (layout_in m) (own_layout image m of) c.args.range c.requires.range batch.first batch.end)
     c.need_for.ensures.need
+
+pub need_for-requires-clause-of_image : goal.need_for-requires-clause-of_image
+need_for-requires-clause-of_image g c = λ image now.
+    subst (IsMountOf image) (sym c.in_ok-addresses.ensures.mount) (c.requires.of_image image (sym c.in_ok-addresses.ensures.reads.told ∙ now))

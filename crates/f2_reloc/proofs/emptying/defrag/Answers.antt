@@ -80,3 +80,7 @@ pub returns-in-None-clause-any_moment : goal.returns-in-None-clause-any_moment
 returns-in-None-clause-any_moment g c = λ calm image told.
     let d = c.args.d.now in
     reads_rest c.planned.ensures.reads (at_rest (g.D.Disk.state d) image (HasSameFiles image) (g.met.D.Disk.only_now d) (λ x left. g.met.D.Disk.settled d x calm left) told (own_files image (c.requires.checked image told)))
+
+pub move_all-requires-clause-of_image : goal.move_all-requires-clause-of_image
+move_all-requires-clause-of_image g c = λ image now.
+    subst (IsMountOf image) (sym c.planned.ensures.mount) (c.requires.of_image image (sym c.planned.ensures.reads.told ∙ now))

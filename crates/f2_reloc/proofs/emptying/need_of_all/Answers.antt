@@ -1,9 +1,10 @@
-use Rattle.std.proofs.Common.{get_or, subst, ◌∙◌, arith}
+use Rattle.std.proofs.Common.{get_or, sym, subst, ◌∙◌, arith}
 use Rattle.f2_disk.proofs.Runs.{reads_then, goes_then}
 use Rattle.f2_view.specs.Mounted.{Mounted, layout_in}
 use Rattle.f2_view.proofs.TableReadings.{own_layout}
 use Rattle.f2_reloc.specs.Emptying.{part_of, IsNeed}
 use Rattle.f2_reloc.proofs.NeedSteps.{need_next, need_all}
+use Rattle.f2_view.specs.Mounted.{IsMountOf}
 use Rattle.f2_reloc.proofs.emptying.need_of_all.Goals as goal
 
 pub loop-batch-preserved : goal.loop-batch-preserved
@@ -28,3 +29,7 @@ returns-clause-need g c = λ image told.
     let past = c.loop-batch-test.false in
     c.loop-batch.invariant.need image told
     ∙ need_all image (c.requires.checked image told) (layout_in c.args.m.now) (own_layout image c.args.m.now (c.requires.of_image image told)) c.args.range c.requires.range c.args.batches.now (c.requires.cut image told) c.loop-batch.batch-index (omega (arith, past))
+
+pub batch_need-requires-clause-of_image : goal.batch_need-requires-clause-of_image
+batch_need-requires-clause-of_image g c = λ image now.
+    subst (IsMountOf image) (sym c.loop-batch.invariant.mount) (c.requires.of_image image (sym c.loop-batch.invariant.reads.told ∙ now))

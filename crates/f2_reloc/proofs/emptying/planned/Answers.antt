@@ -18,3 +18,7 @@ returns-then-need-have-clause-no_space g c = λ need have e image told.
     let long : c.in_ok-targets.targets.len ≡ length c.in_ok-targets.targets.items = omega (arith, right) in
     let over = c.if-need-have.true in
     (sym is.0 ∙ wants, sym is.1 ∙ c.len-have.ensures ∙ long ∙ ap length chosen, let first = is.0 in let second = is.1 in omega (arith, first, second, over))
+
+pub need_of_all-requires-clause-of_image : goal.need_of_all-requires-clause-of_image
+need_of_all-requires-clause-of_image g c = λ image now.
+    subst (IsMountOf image) (sym c.in_ok-batches.ensures.mount) (c.requires.of_image image (sym c.in_ok-batches.ensures.reads.told ∙ now))

@@ -1,6 +1,7 @@
-use Rattle.std.proofs.Common.{refl, sym, ◌∙◌, arith}
+use Rattle.std.proofs.Common.{refl, sym, subst, ◌∙◌, arith}
 use Rattle.f2_commit.specs.Moves.{HasSameFiles}
 use Rattle.f2_disk.proofs.Runs.{reads_first, at_rest, goes_then}
+use Rattle.f2_view.specs.Mounted.{IsMountOf}
 use Rattle.f2_reloc.proofs.Rests.{own_files, reads_rest}
 use Rattle.f2_reloc.proofs.moving.move_valid.Goals as goal
 
@@ -20,6 +21,9 @@ pub returns-then-takes-targets-clause-any_moment : goal.returns-then-takes-targe
 returns-then-takes-targets-clause-any_moment g c = λ calm image told.
     let d = c.args.d.now in
     reads_rest c.need_for.ensures.reads (at_rest (g.D.Disk.state d) image (HasSameFiles image) (g.met.D.Disk.only_now d) (λ x left. g.met.D.Disk.settled d x calm left) told (own_files image (c.requires.checked image told)))
+
+pub shift-requires-clause-of_image : goal.shift-requires-clause-of_image
+shift-requires-clause-of_image g c = λ image told. subst (IsMountOf image) (sym c.need_for.ensures.mount) (c.requires.of_image image (sym c.need_for.ensures.reads.told ∙ told))
 
 pub shift-requires-clause-targets : goal.shift-requires-clause-targets
 shift-requires-clause-targets g c = λ image told. c.requires.targets image (sym c.need_for.ensures.reads.told ∙ told)
