@@ -1,5 +1,5 @@
 -- Answers with which more is put than the last line.
-use Rattle.std.proofs.Common.{◌≡◌, ◌⊎◌, ℕ, subst}
+use Rattle.std.proofs.Common.{◌≡◌, ◌⊎◌, ℕ, inl, inr, subst}
 use Rattle.std.specs.Prelude.{Bool, false, true}
 use Rattle.f2_top.specs.Answers.{AnswersOrEnds, IsLastAlone}
 use Rattle.f2_top.specs.declared.answer.Answer.{Answer}

@@ -17,7 +17,6 @@ pub mod Unmounted
 pub mod Used
 pub mod UuidDigits
 mod Alone
-mod Alone
 mod Answered
 mod Digits
 mod Missing

@@ -1,5 +1,5 @@
 -- What a repair changes, from what its parts say.
-use Rattle.std.proofs.Common.{◌≡◌, ◌≤◌, ◌∙◌, ℕ, Option, Some, false, Result, Ok, Err, refl, sym, subst, inl}
+use Rattle.std.proofs.Common.{◌≡◌, ◌≤◌, ◌∙◌, ℕ, Option, Some, false, Result, Ok, Err, refl, sym, subst, inl, arith}
 use Rattle.f2_bytes.specs.Bytes.{Image}
 use Rattle.f2_disk.specs.Disk.{State, Reads, LeavesOnly}
 use Rattle.f2_disk.proofs.Runs.{at_rest, quiet_on, reads_first, started}

@@ -1,4 +1,4 @@
-use Rattle.std.specs.Prelude.{not}
+use Rattle.std.specs.Prelude.{not, []}
 use Rattle.f2_top.proofs.Alone.{defects_have_lines}
 use Rattle.f2_top.proofs.checks.put_verdict.Goals as goal
 

@@ -3,11 +3,13 @@ use Rattle.std.specs.Prelude.{flat_map, map, false}
 use Rattle.f2_defects.specs.Collected.{defect_in}
 use Rattle.f2_defects.specs.Verdicts.{IsVerdict}
 use Rattle.f2_defects.specs.declared.verdict.Verdict.TheVariants as verdict
+use Rattle.f2_top.specs.Answers.{IsWhole}
+use Rattle.f2_top.specs.Run.{least_failing}
 use Rattle.f2_top.specs.Ranges.{aim_at, space_answer, unless_failing, lines_unless_failing, moves_line, LeavesEmptied}
 use Rattle.f2_top.specs.Text.{IsFront, defect_line}
 use Rattle.f2_top.specs.declared.answer.Answer.TheVariants.{DiskFault, NoMemory, SinkFault}
 use Rattle.f2_top.proofs.Alone.{defects_have_lines}
-use Rattle.f2_top.proofs.Moving.{always_read, defects_answer, defects_left, defects_text, defects_whole, same_reads}
+use Rattle.f2_top.proofs.Moving.{always_read, clean_answer, done_whole, defects_answer, defects_left, defects_text, defects_whole, same_reads}
 use Rattle.f2_top.proofs.Readable.{clean_none}
 use Rattle.f2_top.proofs.moves.empty_if_clean.Goals as goal
 
@@ -69,3 +71,9 @@ returns-in-Defects-clause-any_moment g c =
 pub returns-in-Defects-clause-silent : goal.returns-in-Defects-clause-silent
 returns-in-Defects-clause-silent g c = λ alone.
     absurd (defects_have_lines false c.in-Defects.rule c.in-Defects.count c.put_defects.result c.put_defects.ensures.kind alone)
+
+pub returns-in-Clean-clause-sink_fault : goal.returns-in-Clean-clause-sink_fault
+returns-in-Clean-clause-sink_fault g c = λ image told fault.
+    let answer = space_answer image (aim_at c.args.range c.args.target c.args.down) in
+    let none = clean_none image (subst (IsVerdict image 1) c.in-Clean.is (c.requires.verdict image told)) in
+    subst IsWhole (sym (clean_answer image (least_failing image) answer none)) (done_whole answer (c.empty_checked.ensures.sink_fault image told fault))

@@ -77,3 +77,6 @@ pub returns-in-Err-clause-any_moment : goal.returns-in-Err-clause-any_moment
 returns-in-Err-clause-any_moment g c =
     let d = c.args.disk.now in
     always_read (g.met.D.Disk.only_now d) (λ x calm left. g.met.D.Disk.settled d x calm left) c.mount.ensures.reads
+
+pub empty_mounted-requires-clause-of_image : goal.empty_mounted-requires-clause-of_image
+empty_mounted-requires-clause-of_image g c = λ image now. c.in-Ok.ensures.of_image image (sym c.mount.ensures.reads.told ∙ now)

@@ -18,3 +18,6 @@ returns-clause-emptied g c = λ image told. let all = c.in_ok-moved.ensures.empt
 
 pub returns-clause-either : goal.returns-clause-either
 returns-clause-either g c = λ image told checked. c.defrag.ensures.either image told
+
+pub returns-in_err-moved-clause-either : goal.returns-in_err-moved-clause-either
+returns-in_err-moved-clause-either g c = λ image told checked. c.defrag.ensures.either image told
