@@ -2,6 +2,7 @@ use Rattle.std.proofs.Common.{sym, ◌∙◌, subst, arith}
 use Rattle.std.proofs.lemmas.Result.{IfOk-weaker}
 use Rattle.f2_bytes.specs.Check.{defects}
 use Rattle.f2_check.proofs.Deciding.{meets_none, meets_more, no_defects, verdict_fails, verdict_next, can_count}
+use Rattle.f2_disk.proofs.Runs.{reads_then, goes_then}
 use Rattle.f2_view.specs.Mounted.{IsMountOf}
 use Rattle.f2_check.proofs.checking.check_nodes.Goals as goal
 
@@ -21,3 +22,9 @@ returns-clause-verdict g c =
     verdict_next image 3 v (omega arith) none
     (later image (c.in_ok-found.ensures.reads.told ∙ told) (subst (IsMountOf image) (sym c.in_ok-found.ensures.mount) of) (meets_more image 2 3 before none) (begun.next none)))
     c.check_rules.ensures.verdict
+
+pub returns-clause-reads : goal.returns-clause-reads
+returns-clause-reads g c = reads_then c.in_ok-found.ensures.goes.later c.in_ok-found.ensures.reads c.check_rules.ensures.reads
+
+pub returns-clause-goes : goal.returns-clause-goes
+returns-clause-goes g c = goes_then c.in_ok-found.ensures.goes c.check_rules.ensures.goes

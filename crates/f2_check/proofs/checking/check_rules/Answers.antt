@@ -38,7 +38,7 @@ loop-rule-preserved g c =
 
 pub returns-clause-verdict : goal.returns-clause-verdict
 returns-clause-verdict g c = λ image told of before work.
-    let all : c.loop-rule.rule ≡ 13 = omega (arith, c.loop-rule.near-rule, c.loop-rule.far-rule) in
+    let all : c.loop-rule.rule ≡ 13 = omega arith in
     verdict_clean image 4 (subst (MeetsFrom image 4) all (late image c.loop-rule.rule (c.loop-rule.invariant.met image told of before work)))
 
 pub returns-in_err-found-clause-reads : goal.returns-in_err-found-clause-reads
