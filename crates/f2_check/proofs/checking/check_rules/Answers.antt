@@ -1,9 +1,8 @@
-use Rattle.std.proofs.Common.{◌≡◌, ℕ, [], Some, sym, ◌∙◌, subst, arith}
+use Rattle.std.proofs.Common.{◌≡◌, ℕ, sym, ◌∙◌, subst, arith}
 use Rattle.f2_bytes.specs.Bytes.{Image}
 use Rattle.f2_bytes.specs.Check.{defects}
 use Rattle.f2_check.proofs.Deciding.{MeetsFrom, meets_more, no_defects, verdict_fails, verdict_clean, can_count}
 use Rattle.f2_disk.proofs.Runs.{reads_then, goes_then}
-use Rattle.f2_rules.specs.Worked.{IsWork}
 use Rattle.f2_survey.specs.Parts.{MeetsBefore}
 use Rattle.f2_view.specs.Mounted.{IsMountOf}
 use Rattle.f2_check.proofs.checking.check_rules.Goals as goal
