@@ -1,19 +1,18 @@
 -- A mounted image can be read. It is checked exactly where its verdict is clean.
-use Rattle.std.proofs.Common.{◌≡◌, ℕ, ◌+◌, ◌*◌, ◌^◌, ◌≤◌, Bool, true, ◌&&◌, ◌==◌, List, length, Option, Some, None, refl, sym, ap, ◌∙◌, subst, arith}
-use Rattle.std.specs.Prelude.{◌↔◌, unwrap_or, is_some, is_none, nat_le, map}
-use Rattle.std.specs.List.{range_with_len}
+use Rattle.std.proofs.Common.{◌≡◌, ℕ, ◌+◌, ◌*◌, ◌^◌, ◌≤◌, true, ◌&&◌, ◌==◌, length, Option, Some, None, refl, sym, ap, ◌∙◌, arith}
+use Rattle.std.specs.Prelude.{◌↔◌, is_some, is_none, nat_le}
 use Rattle.std.proofs.lemmas.Bool.{and_from, and_parts, eq-eqb, le-leb}
 use Rattle.std.proofs.lemmas.List.FromFn.{length-map-range_with_len}
 use Rattle.f2_bytes.specs.Bytes.{Image}
 use Rattle.f2_bytes.specs.Check.{failing_rule, is_checked, is_checked_body, is_readable}
-use Rattle.f2_bytes.specs.Checkpoint.{pack, pack_number, has_checkpoint}
+use Rattle.f2_bytes.specs.Checkpoint.{pack, has_checkpoint}
 use Rattle.f2_bytes.specs.Journal.{nat_journal_area, sit_journal_area, nat_record_at, sit_record_at, nat_room, sit_room, journal_count, are_journals_bounded}
 use Rattle.f2_bytes.specs.Superblock.{super_copy, super_bytes, is_loadable, unsupported_features, block_count}
 use Rattle.f2_defects.specs.Verdicts.{Says, IsVerdict}
 use Rattle.f2_defects.specs.declared.verdict.Verdict.{Verdict}
 use Rattle.f2_defects.specs.declared.verdict.Verdict.TheVariants.{Clean, Defects}
 use Rattle.f2_disk.specs.Disk.{IsImage}
-use Rattle.f2_pack.specs.Held.{Held, chosen_of}
+use Rattle.f2_pack.specs.Held.{Held}
 use Rattle.f2_view.specs.Mounted.{Mounted, IsKept, IsMountOf, layout_in}
 
 module _ (image : Image) (m : Mounted) (kept : IsKept m) (of : IsMountOf image m) where

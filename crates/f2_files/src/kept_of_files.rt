@@ -90,7 +90,6 @@ fn give_block<D: Disk>(
 
 /// What is kept of files on the first tour over them, for the rules on addresses, on counts, on extents, on attributes and
 /// on directories.
-#[derive(Drop)]
 pub struct Kept {
     pub addresses: Addresses,
     pub usage: Usage,
@@ -99,6 +98,21 @@ pub struct Kept {
     pub directories: Directories,
     /// whether the file that is visited is a directory that stands in blocks
     pub in_blocks: bool,
+}
+
+// Written out, and not derived, so that it is one call wherever a `Kept` goes out of scope: a derived one is the calls for
+// all its fields.
+impl Drop for Kept {
+    fn drop(self) {
+        let Kept {
+            addresses: _,
+            usage: _,
+            extents: _,
+            attributes: _,
+            directories: _,
+            in_blocks: _,
+        } = self;
+    }
 }
 
 impl Kept {

@@ -137,12 +137,7 @@ fn attribute_defects(alloc: Global, m: &Mount, work: &Work) -> Result<Collector,
 }
 
 // The defects by one of the rules from 7 to 12, which read nothing more of the disk.
-fn defects_of_work(
-    alloc: Global,
-    m: &Mount,
-    rule: u8,
-    work: &Work,
-) -> Result<Collector, AllocError>
+fn defects_of_work(alloc: Global, m: &Mount, rule: u8, work: &Work) -> Result<Collector, AllocError>
     requires low { 7 ≤ rule }
     requires high { rule < 13 }
     requires table { length work.now.entries.items ≡ (layout_in m.now).segments }

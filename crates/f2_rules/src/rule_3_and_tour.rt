@@ -38,6 +38,13 @@ fn survey_defects(alloc: Global, defects: &NodeDefects) -> Result<Collector, All
     Ok(c)
 }
 
+// The same, of defects that nothing more is asked of.
+fn first_defects(alloc: Global, defects: NodeDefects) -> Result<Collector, AllocError>
+    ensures { IfOk result (λ c. (image : Image) → HasNodeDefects image defects → Collects c (first_parts image 3 5)) }
+{
+    survey_defects(alloc, &defects)
+}
+
 // What is kept of files before the first one, where the file of each number has so many nodes.
 fn no_files(alloc: Global, m: &Mount, nodes: &Nodes, counts: Vec<u32>) -> Result<Files, AllocError>
     ensures { IfOk result (λ f. (image : Image) → IsMountOf image m.now → IsKnown image nodes.now → CountsNodes image counts.items → IsAfter image 0 f) }
@@ -135,7 +142,7 @@ fn look<D: Disk>(alloc: Global, m: &mut Mount, d: &mut D) -> Result<Beginning, C
         inodes: inode_count,
         of_files,
     } = tally;
-    let first = survey_defects(alloc, &defects)?;
+    let first = first_defects(alloc, defects)?;
     let gives = first.is_empty();
     let (toured, kept) = visit_files(alloc, m, d, &nodes, of_files, gives)?;
     let found = joined(first, &toured)?;

@@ -1,9 +1,8 @@
-use Rattle.std.proofs.Common.{◌≡◌, ℕ, [], Some, sym, ◌∙◌, subst, arith}
+use Rattle.std.proofs.Common.{◌≡◌, ℕ, sym, ◌∙◌, subst, arith}
 use Rattle.f2_bytes.specs.Bytes.{Image}
 use Rattle.f2_bytes.specs.Check.{defects}
 use Rattle.f2_check.proofs.Deciding.{MeetsFrom, meets_more, no_defects, verdict_fails, verdict_clean, can_count}
 use Rattle.f2_disk.proofs.Runs.{reads_then, goes_then}
-use Rattle.f2_rules.specs.Worked.{IsWork}
 use Rattle.f2_survey.specs.Parts.{MeetsBefore}
 use Rattle.f2_view.specs.Mounted.{IsMountOf}
 use Rattle.f2_check.proofs.checking.check_rules.Goals as goal
@@ -38,7 +37,7 @@ loop-rule-preserved g c =
 
 pub returns-clause-verdict : goal.returns-clause-verdict
 returns-clause-verdict g c = λ image told of before work.
-    let all : c.loop-rule.rule ≡ 13 = omega (arith, c.loop-rule.near-rule, c.loop-rule.far-rule) in
+    let all : c.loop-rule.rule ≡ 13 = omega arith in
     verdict_clean image 4 (subst (MeetsFrom image 4) all (late image c.loop-rule.rule (c.loop-rule.invariant.met image told of before work)))
 
 pub returns-in_err-found-clause-reads : goal.returns-in_err-found-clause-reads
